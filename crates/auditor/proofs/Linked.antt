@@ -11,7 +11,8 @@ use Rattle.model.specs.Basic.{pick}
 use Rattle.model.specs.Calls.{Ranged}
 use Rattle.model.specs.declared.Looked.the-variants.{Refused}
 use Rattle.model.specs.Lent.{listed}
-use Rattle.model.specs.Ended.{toFresh, toFreshSecond, toCheck, toState, toOpen, toCommit, toAbandon, toInsert, toDelete, toReturn, toPrune, toLookup, toRange, toVisits, toDifference, toLife}
+use Rattle.model.specs.Ended.{toFresh, toFreshSecond, toCheck, toState, toOpen, toCommit, toAbandon, toInsert, toDelete, toReturn, toPrune}
+use Rattle.model.specs.Ended.{toLookup, toRange, toVisits, toDifference, toLife}
 use Rattle.plain.specs.Plain.{Plain, Given, begin, insert, delete, commit, abandon, return, prune, lookup, range, difference, life}
 use Rattle.plain.specs.Guard.{stateOf, longest, isState, isLent, readPlain, refusing, guarded, fitted, ownInserts}
 use Rattle.auditor.specs.Engine.{ofGiven, ofLooked, ofListed}
@@ -38,7 +39,8 @@ module _ (ns ms us : List ℕ) (lent : isLent ns ms ≡ true) where
       at true e = ap (λ (c : Bool). pick c (refusing 14 own) g) (le-ltb (length ns) (4 * n) (h (eqb-true (g .number) 0 e)))
       at false e = refl
 
-  tells : (f : ℕ → Ranged) → ofListed own (pick (isLent ns ms) (listed us (f (length us))) (record { number = 4; count = 0; list = us })) ≡ ofListed own (listed us (f (length us)))
+  tells : (f : ℕ → Ranged) → ofListed own (pick (isLent ns ms) (listed us (f (length us))) (record { number = 4; count = 0; list = us }))
+      ≡ ofListed own (listed us (f (length us)))
   tells f = ap (λ (b : Bool). ofListed own (pick b (listed us (f (length us))) (record { number = 4; count = 0; list = us }))) lent
 
 pub linked : Linked

@@ -8,7 +8,8 @@ use Rattle.model.specs.declared.Looked.{Looked}
 use Rattle.model.specs.Layout.{bit}
 use Rattle.model.specs.Calls.{lookedNumber, lookedFound, lookedValue}
 use Rattle.model.specs.Lent.{Listed, listed}
-use Rattle.model.specs.Ended.{Asked, toFresh, toFreshSecond, toCheck, toState, toOpen, toCommit, toAbandon, toInsert, toDelete, toReturn, toPrune, toLookup, toRange, toVisits, toDifference, toLife}
+use Rattle.model.specs.Ended.{Asked, toFresh, toFreshSecond, toCheck, toState, toOpen, toCommit, toAbandon, toInsert, toDelete, toReturn}
+use Rattle.model.specs.Ended.{toPrune, toLookup, toRange, toVisits, toDifference, toLife}
 use Rattle.plain.specs.Plain.{Plain, Given, begin, insert, delete, commit, abandon, return, prune, lookup, range, difference, life}
 
 -- the calls that the plain engine has: it makes nothing fresh, and has no pages to check or to visit

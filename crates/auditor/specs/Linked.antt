@@ -1,14 +1,17 @@
--- The theorem and the functions that a program links: what the contracts of `rcst_plain_..` say (crate host, plain's Guard) of a plain store
--- that is lent with its room is what `plainly` says, of which the theorem speaks. So 4, and 14 of an insert or a return, are not met there.
+-- The theorem and the functions that a program links: what the contracts of `rcst_plain_..` say (crate host, plain's Guard) of a plain
+-- store that is lent with its room is what `plainly` says, of which the theorem speaks. So 4, and 14 of an insert or a return, are not met
+-- there.
 -- Assumes nothing.
 use Prim.Native.Nat.{ℕ, _+_, _*_, _≤_}
 use mathlib.Core.Bool.{true}
 use mathlib.Core.Path.{_≡_}
 use mathlib.Core.List.{List}
 use lib.ListN.{length}
-use Rattle.model.specs.Ended.{Asked, toFresh, toFreshSecond, toCheck, toState, toOpen, toCommit, toAbandon, toInsert, toDelete, toReturn, toPrune, toLookup, toRange, toVisits, toDifference, toLife}
+use Rattle.model.specs.Ended.{Asked, toFresh, toFreshSecond, toCheck, toState, toOpen, toCommit, toAbandon, toInsert, toDelete, toReturn}
+use Rattle.model.specs.Ended.{toPrune, toLookup, toRange, toVisits, toDifference, toLife}
 use Rattle.plain.specs.Plain.{Plain, begin}
-use Rattle.plain.specs.Guard.{stateOf, isState, isLent, readPlain, guarded, ownInserts, insertGuarded, deleteGuarded, commitGuarded, abandonGuarded, returnGuarded, pruneGuarded, lookupGuarded, rangeGuarded, differenceGuarded, lifeGuarded}
+use Rattle.plain.specs.Guard.{stateOf, isState, isLent, readPlain, guarded, ownInserts, insertGuarded, deleteGuarded, commitGuarded}
+use Rattle.plain.specs.Guard.{abandonGuarded, returnGuarded, pruneGuarded, lookupGuarded, rangeGuarded, differenceGuarded, lifeGuarded}
 use Rattle.auditor.specs.Engine.{Plainly, ofGiven, ofLooked, ofListed, nothing, plainly}
 
 -- what a function gives and leaves, by its contract: ns is the list of items and ms the state that were lent, us the caller's list

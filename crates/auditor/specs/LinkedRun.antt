@@ -19,7 +19,8 @@ use Rattle.auditor.specs.Engine.{has, Plainly}
 use Rattle.auditor.specs.SideBySide.{Equal, acceptedIn}
 use Rattle.auditor.specs.Linked.{guardedly}
 
--- a call of a function, by its contract: lent the items ns, the state ms and the caller's list us, it gave f and left the items ns′ and the state ms′
+-- a call of a function, by its contract: lent the items ns, the state ms and the caller's list us, it gave f and left the items ns′ and the
+-- state ms′
 pub record Called (c : Asked) (ns ms us : List ℕ) (f : Plainly) (ns′ ms′ : List ℕ) : Type 0 where
   pub gave : f ≡ guardedly c ns ms us
   pub left : f .plain ≡ readPlain ns′ ms′
@@ -40,10 +41,14 @@ abbrev pub EachLinked : List ℕ → List ℕ → List ℕ → List Turn → Typ
 EachLinked b ns ms [] = isLent ns ms ≡ true
 EachLinked b ns ms (t ∷ ts) =
     (isLent ns ms ≡ true)
-    × CalledBeside (lacking (turned b t .number)) (givesUp (kindOf (t .call)) (turned b t .number)) b t ns ms (λ (ns′ ms′ : List ℕ). EachLinked (turned b t .store) ns′ ms′ ts)
+    × CalledBeside (lacking (turned b t .number)) (givesUp (kindOf (t .call)) (turned b t .number)) b t ns ms
+    (λ (ns′ ms′ : List ℕ). EachLinked (turned b t .store) ns′ ms′ ts)
 
 -- from an empty plain store, with room lent for one item for each accepted insert
 abbrev pub LinkedRun : Type 0
-LinkedRun = (least : ℕ) → OfEdition least → (n : ℕ) → 6 ≤ n → n ≤ 4096 → (ts : List Turn) → each fitting ts ≡ true → all (λ (t : Turn). has (t .call)) ts ≡ true
-    → (ns ms : List ℕ) → isLent ns ms ≡ true → readPlain ns ms ≡ empty (editionOf least) → 4 * acceptedIn (encode least (fresh n)) ts ≤ length ns
+LinkedRun =
+    (least : ℕ) → OfEdition least → (n : ℕ) → 6 ≤ n → n ≤ 4096 → (ts : List Turn) → each fitting ts ≡ true
+    → all (λ (t : Turn). has (t .call)) ts ≡ true
+    → (ns ms : List ℕ) → isLent ns ms ≡ true → readPlain ns ms ≡ empty (editionOf least)
+    → 4 * acceptedIn (encode least (fresh n)) ts ≤ length ns
     → EachLinked (encode least (fresh n)) ns ms ts

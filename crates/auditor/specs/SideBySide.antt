@@ -1,6 +1,6 @@
--- 2026-10: "For every sequence of calls from a fresh store the two give equal numbers, lookups, ranges and counts, except that the plain one
--- has no pages: where the tree gives 12 or 13, that call is left out of the plain sequence. A return that ends so is an abandon there. The
--- plain list is lent with room for one item for each accepted insert, a return's own included; that is a premise."
+-- 2026-10: "For every sequence of calls from a fresh store the two give equal numbers, lookups, ranges and counts, except that the plain
+-- one has no pages: where the tree gives 12 or 13, that call is left out of the plain sequence. A return that ends so is an abandon there.
+-- The plain list is lent with room for one item for each accepted insert, a return's own included; that is a premise."
 -- Who has read crate plain's definitions knows by this what the tree answers, call by call, with no word of pages but the two numbers.
 -- Assumes nothing.
 use Prim.Native.Nat.{ℕ, _+_, _≤_}
@@ -36,8 +36,8 @@ pub record OneCall (b : List ℕ) (p : Plain) (t : Turn) : Type 0 where
   -- the abandon that a return becomes is accepted
   pub abandons : givesUp (kindOf (t .call)) (turned b t .number) ≡ true → abandon p .number ≡ 0
 
--- the plain store after a call to which the tree gave n: "where the tree gives 12 or 13, that call is left out of the plain sequence. A return
--- that ends so is an abandon there."
+-- the plain store after a call to which the tree gave n: "where the tree gives 12 or 13, that call is left out of the plain sequence. A
+-- return that ends so is an abandon there."
 abbrev pub followed : ℕ → Plain → Turn → Plain
 followed n p t = pick (lacking n) (pick (givesUp (kindOf (t .call)) n) (abandon p .plain) p) (plainly (t .call) p (t .list) .plain)
 
@@ -62,10 +62,11 @@ abbrev pub acceptedIn : List ℕ → List Turn → ℕ
 acceptedIn b [] = 0
 acceptedIn b (t ∷ ts) = accepted b t + acceptedIn (turned b t .store) ts
 
--- ---- one after another: each call gives the same, and before each and after the last the plain store is such that its functions may be called
+-- ---- one after another: each call gives the same, and before each and after the last the plain store is such that its functions may be
+-- called
 
--- what the functions of crate plain ask of a lent list that has room for so many items (Items' Held): after an insert or a return too, so that
--- the room is never outgrown
+-- what the functions of crate plain ask of a lent list that has room for so many items (Items' Held): after an insert or a return too, so
+-- that the room is never outgrown
 pub record FitsRoom (room : ℕ) (p : Plain) : Type 0 where
   pub items : length (p .items) ≤ room
   pub version : p .current ≤ 1048574
@@ -75,5 +76,7 @@ EachCall room b p [] = FitsRoom room p
 EachCall room b p (t ∷ ts) = FitsRoom room p × OneCall b p t × EachCall room (turned b t .store) (followed (turned b t .number) p t) ts
 
 abbrev pub SideBySide : Type 0
-SideBySide = (least : ℕ) → OfEdition least → (n : ℕ) → 6 ≤ n → n ≤ 4096 → (ts : List Turn) → each fitting ts ≡ true → all (λ (t : Turn). has (t .call)) ts ≡ true
+SideBySide =
+    (least : ℕ) → OfEdition least → (n : ℕ) → 6 ≤ n → n ≤ 4096 → (ts : List Turn) → each fitting ts ≡ true
+    → all (λ (t : Turn). has (t .call)) ts ≡ true
     → (room : ℕ) → acceptedIn (encode least (fresh n)) ts ≤ room → EachCall room (encode least (fresh n)) (empty (editionOf least)) ts

@@ -9,7 +9,7 @@ use Rattle.model.specs.Store.{next}
 use Rattle.model.specs.Layout.{decode}
 use Rattle.model.specs.Judged.{isSound}
 use Rattle.model.specs.Return.{Ran, reached, stopped}
-use Rattle.model.proofs.sound.ByRule as given
+use Rattle.model.specs.ByRule as given
 use Rattle.differ.specs.Listing.{leftOf}
 
 -- the bytes of a sound store in which version w is open, and v is a version before it

@@ -28,6 +28,6 @@ unfoldable pub against : Bool → Bool → ℕ
 against b alive = firstOf (speaks b alive ∷ [])
 
 -- page n is the leaf for a key at w, the open version
-pub record At (l : Limits) (b : List ℕ) (k w n : ℕ) : Type 0 where
+pub record AtLeaf (l : Limits) (b : List ℕ) (k w n : ℕ) : Type 0 where
   pub version : w ≡ next (decode (l .least) b)
   pub leaf : Leaf l b w k n

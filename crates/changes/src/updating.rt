@@ -11,7 +11,7 @@ ghost use Rattle.model.specs.Lent.{leaving, insertLent, deleteLent};
 ghost use Rattle.walk.specs.Down.{Leaf};
 ghost use Rattle.walk.specs.Sure.{Walkable};
 ghost use Rattle.reads.specs.Guard.{guarded, Sure};
-ghost use Rattle.changes.specs.Updating.{updating, limitOf, against, At};
+ghost use Rattle.changes.specs.Updating.{updating, limitOf, against, AtLeaf};
 
 // "Keys 16,776,960 and above belong to our test bench. Insert refuses them with 5."
 const BENCH: u32 = 16776960;
@@ -90,7 +90,7 @@ fn by_leaf(s: &[u8], l: Limits, key: u32, insert: bool, w: u32) -> Reached
 pub(crate) fn guard_updating(s: &[u8], l: Limits, key: u32, insert: bool, sure: bool) -> Reached
     requires { ⌜ Edition l × Sure l (now s) sure ⌝ }
     ensures number { λ r. ⌜ r .number ≡ guarded (l .least) (now (s .entry)) (updating insert key) ⌝ }
-    ensures leaf { λ r. ⌜ (r .number ≡ 0 → At l (now (s .entry)) key (r .version) (r .leaf)) ⌝ }
+    ensures leaf { λ r. ⌜ (r .number ≡ 0 → AtLeaf l (now (s .entry)) key (r .version) (r .leaf)) ⌝ }
 {
     let n = crate::judge(s, l, sure);
     if n != 0 {

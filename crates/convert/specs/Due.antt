@@ -4,8 +4,7 @@ use mathlib.Core.List.{List}
 use Rattle.model.specs.Basic.{those}
 use Rattle.model.specs.declared.Pair.{Pair}
 use Rattle.model.specs.declared.Delta.{Delta}
-use Rattle.model.proofs.sound.Small.{small}
-use Rattle.model.proofs.turning.Remade.{Ends as EndsBy, Sets as SetsBy}
+use Rattle.model.specs.Remade.{small, Ends as EndsBy, Sets as SetsBy}
 use Rattle.back.specs.Pass.{wants}
 
 -- inserts one after another, each of a key that is not there; or deletes, each of one that is

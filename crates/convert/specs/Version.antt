@@ -8,7 +8,7 @@ use Rattle.model.specs.Limits.{Edition}
 use Rattle.model.specs.Layout.{decode}
 use Rattle.model.specs.Judged.{isSound}
 use Rattle.model.specs.Return.{Ran, reached, stopped}
-use Rattle.model.proofs.turning.Converted.{Upto}
+use Rattle.model.specs.Remade.{Upto}
 
 -- a sound source, and a target in which its versions up to v are replayed
 pub record Replaying (k : Limits) (a : List ℕ) (l : Limits) (b : List ℕ) (v : ℕ) : Type 0 where

@@ -7,8 +7,7 @@ use Rattle.model.specs.declared.Pair.{Pair}
 use Rattle.model.specs.Page.{Page, pairsAt}
 use Rattle.model.specs.Store.{page}
 use Rattle.model.specs.Walk.{keyLimit}
-use Rattle.model.proofs.tree.Tree.{Holds}
-use Rattle.model.proofs.tree.Local.{inRange}
+use Rattle.model.specs.Tree.{Holds, inRange}
 
 -- Page n, `up` levels above the leaves, has the keys from `low` up to, not including, `high`, and k is one of them; what it shows
 -- stands so in the whole.

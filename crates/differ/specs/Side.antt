@@ -7,7 +7,7 @@ use Rattle.model.specs.declared.Pair.{Pair}
 use Rattle.model.specs.Entry.{pair}
 use Rattle.model.specs.Walk.{between, keyLimit}
 use Rattle.model.specs.Inner.{rising}
-use Rattle.model.proofs.tree.Local.{inRange}
+use Rattle.model.specs.Tree.{inRange}
 use Rattle.walk.specs.Live.{live}
 use Rattle.walk.specs.Scan.{from}
 use Rattle.cursor.specs.First.{leads}

@@ -1,2 +1,1 @@
-pub mod Still
 pub mod Lived

@@ -1,19 +1,12 @@
 -- A life as the code has it: answers compared, and a stretch put behind the others in the caller's list.
 use Prim.Native.Nat.{ℕ}
 use mathlib.Core.Bool.{Bool, true, false}
-use mathlib.Core.Path.{refl}
 use mathlib.Core.List.{List, [], _∷_}
 use lib.Dec.{eqb}
 use Rattle.model.specs.declared.Stretch.{Stretch}
 use Rattle.model.specs.declared.Looked.{Looked}
 use Rattle.model.specs.declared.Looked.the-variants.{Value, Absent, Refused}
-use Rattle.model.specs.Life.{stretchNumbers}
-use Rattle.model.specs.Telling.{Shape}
-use Rattle.model.proofs.reading.Lives.{stretch}
-
--- "Each stretch takes three numbers"
-abbrev pub stretches : Shape Stretch
-stretches = record { numbers = stretchNumbers; each = 3; size = λ a. refl }
+use Rattle.model.specs.Still.{stretch}
 
 -- ---- answers
 

@@ -15,7 +15,7 @@ ghost use Rattle.model.specs.Judged.{isSound};
 ghost use Rattle.walk.specs.Live.{live};
 ghost use Rattle.walk.specs.Scan.{Stands, from};
 ghost use Rattle.walk.specs.Sure.{PageStands, Walkable};
-ghost use Rattle.life.specs.Still.{Until, Sooner};
+ghost use Rattle.model.specs.Still.{Until, Sooner};
 
 // r, or x if it stands between v and r.
 fn sooner(v: u32, r: u32, x: u32) -> u32

@@ -26,7 +26,8 @@ ghost use Rattle.model.specs.Inner.{Lasts};
 ghost use Rattle.model.specs.Telling.{written, Space, Gathers};
 ghost use Rattle.walk.specs.Counted.{withList};
 ghost use Rattle.walk.specs.Sure.{Walkable};
-ghost use Rattle.life.specs.Lived.{stretches, isValue, isAbsent, sameAs, shown};
+ghost use Rattle.model.specs.Still.{stretches};
+ghost use Rattle.life.specs.Lived.{isValue, isAbsent, sameAs, shown};
 
 // "End 1,048,575 means alive."
 const ALIVE: u32 = 1048575;

@@ -10,7 +10,8 @@ use Rattle.model.specs.declared.State.{State}
 use Rattle.model.specs.Judged.{verdict, judged}
 use Rattle.model.specs.State.{untold}
 use Rattle.model.specs.Editions.{byEdition}
-use Rattle.model.specs.Lent.{Outcome, Listed, openLent, insertLent, deleteLent, commitLent, abandonLent, returnLent, pruneLent, lookupLent, rangeLent, visitsLent, differenceLent, lifeLent, stateLent}
+use Rattle.model.specs.Lent.{Outcome, Listed, openLent, insertLent, deleteLent, commitLent, abandonLent, returnLent, pruneLent}
+use Rattle.model.specs.Lent.{lookupLent, rangeLent, visitsLent, differenceLent, lifeLent, stateLent}
 
 -- "Every number but 0 leaves store and list untouched", and "any result not named here is 0"
 abbrev pub outcomeAny : List ℕ → (ℕ → Outcome) → Outcome

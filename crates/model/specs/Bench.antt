@@ -20,7 +20,9 @@ entered s (k ∷ ks) = entered (after s (gave (rawInsert 4 s k (k + 100))) .stor
 
 -- "stores already shipped": version 1 has 22 keys on two leaf pages, the last three the bench's
 abbrev pub shipped : Store
-shipped = runOn 4 (entered (from 4 16 (begins ∷ []) .store) (count 1 18 ++ (16776959 ∷ 16776960 ∷ 16777000 ∷ 16777215 ∷ []))) (commits ∷ []) .store
+shipped =
+    runOn 4 (entered (from 4 16 (begins ∷ []) .store) (count 1 18 ++ (16776959 ∷ 16776960 ∷ 16777000 ∷ 16777215 ∷ [])))
+    (commits ∷ []) .store
 
 abbrev pub onShipped : List Call → List (After → Bool) → History
 onShipped cs fs = record { store = shipped; calls = cs; facts = fs }
@@ -44,9 +46,11 @@ benchRun =
     ∷ history 6 (begins ∷ deletes 16777215 ∷ []) (gives 11 ∷ looks 16777215 1 Absent ∷ [])
     -- "so that stores already shipped can be read and cleaned"
     ∷ onShipped []
-    (live 22 ∷ looks 16776960 1 (Value 16777060) ∷ looks 16777215 1 (Value 16777315) ∷ ranges 16776960 16777215 1 6 (finds (16776960 ∷ 16777000 ∷ 16777215 ∷ [])) ∷ [])
+    (live 22 ∷ looks 16776960 1 (Value 16777060) ∷ looks 16777215 1 (Value 16777315) ∷ ranges 16776960 16777215 1 6
+    (finds (16776960 ∷ 16777000 ∷ 16777215 ∷ [])) ∷ [])
     ∷ onShipped (begins ∷ deletes 16776960 ∷ deletes 16777000 ∷ deletes 16777215 ∷ commits ∷ [])
-    (gives 0 ∷ live 19 ∷ ranges 16776960 16777215 2 0 (finds []) ∷ ranges 16776960 16777215 1 6 (finds (16776960 ∷ 16777000 ∷ 16777215 ∷ [])) ∷ [])
+    (gives 0 ∷ live 19 ∷ ranges 16776960 16777215 2 0 (finds []) ∷ ranges 16776960 16777215 1 6
+    (finds (16776960 ∷ 16777000 ∷ 16777215 ∷ [])) ∷ [])
     -- an update that cleans and is abandoned
     ∷ onShipped (begins ∷ deletes 16776960 ∷ deletes 16777000 ∷ deletes 16777215 ∷ abandons ∷ []) (gives 0 ∷ bytesOf shipped ∷ [])
     ∷ []

@@ -131,9 +131,11 @@ needed v (x ∷ []) = x ∷ []
 needed v (x ∷ y ∷ zs) = pick (leb (y .version) v) (needed v (y ∷ zs)) (x ∷ y ∷ zs)
 
 unfoldable pub pruned : Store → ℕ → Store
-pruned s v = record { current = s .current; opened = s .opened; oldest = v; slots = needed v (s .slots); pages = map (prunedPage v) (s .pages) }
+pruned s v =
+    record { current = s .current; opened = s .opened; oldest = v; slots = needed v (s .slots); pages = map (prunedPage v) (s .pages) }
 
--- "pruning edition 1 gives 3"; "Versions below [the oldest] give 6, as does pruning above the current version"; "While an update is open it gives 8."
+-- "pruning edition 1 gives 3"; "Versions below [the oldest] give 6, as does pruning above the current version"; "While an update is open it
+-- gives 8."
 abbrev pub pruneTests : ℕ → ℕ → Bool → ℕ → List Rule
 pruneTests old current opened v = rule 6 (beyond current old v) ∷ rule 8 opened ∷ []
 

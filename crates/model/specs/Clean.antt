@@ -25,7 +25,8 @@ spareAt least level = 44 + countBits least + pick (eqb level 0) 0 (liveBits leas
 -- "79 zero bits"; "unused [entries] are all zero"
 unfoldable pub cleanPage : ℕ → List ℕ → Bool
 cleanPage least p =
-    leb (countOf least p) (5 * least) && (zeroFrom p (spareAt least (field p 0 4)) 128 && zeroFrom p (128 + 96 * countOf least p) (512 * least))
+    leb (countOf least p) (5 * least)
+    && (zeroFrom p (spareAt least (field p 0 4)) 128 && zeroFrom p (128 + 96 * countOf least p) (512 * least))
 
 -- so many pages from page n on
 unfoldable pub cleanPages : ℕ → List ℕ → ℕ → ℕ → Bool

@@ -34,7 +34,8 @@ newRoot w level (rebuilt ps (x ∷ y ∷ zs)) = topped w level ps (x ∷ y ∷ z
 -- the root takes its change in place "if it then has at most 20 entries", or is rebuilt alone
 unfoldable pub rootStay : ℕ → Bool → ℕ → List Page → ℕ → Change → Page → Rooted
 rootStay least true w ps r c p = stays (set ps r (changed w c p))
-rootStay least false w ps r c p = newRoot w (p .level) (rebuild least w (p .level) ps (record { routers = pair 0 r ∷ []; pairs = wanted w c p }))
+rootStay least false w ps r c p =
+    newRoot w (p .level) (rebuild least w (p .level) ps (record { routers = pair 0 r ∷ []; pairs = wanted w c p }))
 
 -- "First of all, an index root whose wanted list is one router goes: that child becomes the root."
 unfoldable pub rootGo : ℕ → Bool → ℕ → List Page → ℕ → Change → Page → List Pair → Rooted

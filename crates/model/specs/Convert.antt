@@ -21,8 +21,8 @@ use Rattle.model.specs.Lent.{Outcome, judgedFirst, leftBy}
 
 -- ---- the replay
 
--- One version's differences "as 2026-07 does, bench keys let through": between an open and a commit. "An empty release from before 2026-05 is
--- replayed as an empty version, not refused": the commit is the one without 15.
+-- One version's differences "as 2026-07 does, bench keys let through": between an open and a commit. "An empty release from before 2026-05
+-- is replayed as an empty version, not refused": the commit is the one without 15.
 unfoldable pub replayed : ℕ → List Delta → Store → Ran
 replayed least ds t = orStopped (λ (u : Store). andOn (λ (w : Store). reached (committed w)) (carried least ds u)) t (begin t)
 
@@ -43,7 +43,8 @@ converted least s size = orFresh size (replay least s 0 (s .current) (fresh size
 -- ---- the call
 
 -- Its refusals before the replay, by the bytes of source and target: "fewer than five bytes gives 1; otherwise 2, then 3, then 1 by the
--- edition's page size, then the rest as before"; "A source not of edition 1 gives 3, one with an update open 8, a target of the wrong length 1."
+-- edition's page size, then the rest as before"; "A source not of edition 1 gives 3, one with an update open 8, a target of the wrong
+-- length 1."
 abbrev pub convertTests : List ℕ → List ℕ → List Rule
 convertTests b t =
     rule 1 (ltb (length b) 5)
@@ -56,4 +57,5 @@ convertTests b t =
 
 -- The number, and the target's bytes after it; the source is only read. "every other refusal leaves it untouched"
 unfoldable pub convertLent : List ℕ → List ℕ → Outcome
-convertLent b t = judgedFirst (firstOf (convertTests b t)) (λ n. record { number = n; store = t }) (leftBy 8 t (converted 8 (decode 4 b) (sizeOf 8 t)))
+convertLent b t =
+    judgedFirst (firstOf (convertTests b t)) (λ n. record { number = n; store = t }) (leftBy 8 t (converted 8 (decode 4 b) (sizeOf 8 t)))

@@ -15,8 +15,10 @@ use Rattle.model.specs.declared.State.{State}
 use Rattle.model.specs.Layout.{bit}
 use Rattle.model.specs.Judged.{judged}
 use Rattle.model.specs.Calls.{lookedNumber, lookedFound, lookedValue}
-use Rattle.model.specs.Any.{openAny, insertAny, deleteAny, commitAny, abandonAny, returnAny, pruneAny, lookupAny, rangeAny, lifeAny, differenceAny, visitsAny, judgedAny, stateAny}
-use Rattle.model.specs.Lent.{Outcome, Listed, openLent, insertLent, deleteLent, commitLent, abandonLent, returnLent, pruneLent, freshLent, lookupLent, rangeLent, lifeLent, differenceLent, visitsLent, stateLent}
+use Rattle.model.specs.Any.{openAny, insertAny, deleteAny, commitAny, abandonAny, returnAny, pruneAny, lookupAny, rangeAny, lifeAny}
+use Rattle.model.specs.Any.{differenceAny, visitsAny, judgedAny, stateAny}
+use Rattle.model.specs.Lent.{Outcome, Listed, openLent, insertLent, deleteLent, commitLent, abandonLent, returnLent, pruneLent}
+use Rattle.model.specs.Lent.{freshLent, lookupLent, rangeLent, lifeLent, differenceLent, visitsLent, stateLent}
 use Rattle.model.specs.State.{stateNumbers}
 
 -- the calls, with the numbers that they take
@@ -54,8 +56,8 @@ ofListed b r = record { number = r .number; results = r .count ∷ []; store = b
 abbrev pub ofState : List ℕ → List ℕ → State → Ended
 ofState b ns t = record { number = t .number; results = stateNumbers t; store = b; list = ns }
 
--- what the definitions say of a call, for any bytes lent as a store and any list; making fresh is a call for each edition, and reads nothing
--- of the bytes but their length
+-- what the definitions say of a call, for any bytes lent as a store and any list; making fresh is a call for each edition, and reads
+-- nothing of the bytes but their length
 abbrev pub ended : Asked → List ℕ → List ℕ → Ended
 ended toFresh b ns = ofOutcome ns (freshLent 4 b)
 ended toFreshSecond b ns = ofOutcome ns (freshLent 8 b)

@@ -35,7 +35,14 @@ slot v n = record { version = v; root = n }
 
 -- a store of 14 pages with an update open: its current version, its later slots, and its pages from 6 on
 abbrev pub drawn : ℕ → List Slot → List Page → Store
-drawn v xs ps = record { current = v; opened = true; oldest = 0; slots = slot 0 5 ∷ xs; pages = replicate 5 free ++ (leaf 0 1 [] ∷ ps) ++ replicate (8 - length ps) free }
+drawn v xs ps =
+    record {
+      current = v;
+      opened = true;
+      oldest = 0;
+      slots = slot 0 5 ∷ xs;
+      pages = replicate 5 free ++ (leaf 0 1 [] ∷ ps) ++ replicate (8 - length ps) free;
+    }
 
 -- the calls that lead to a figure, and the store that it shows
 pub record Figure : Type 0 where

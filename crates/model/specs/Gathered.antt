@@ -31,7 +31,8 @@ rootLow level = pick (leb 2 level) 2 1
 -- From the leaf up: where a page does not take its change in place, what is gathered for it fills pages so; and so further up.
 abbrev pub Gathers : ℕ → ℕ → ℕ → List Around → Change → List Page → Type 0
 Gathers least w r [] c ps =
-    goes w c (page ps r) ≡ false → roomy least w c (page ps r) ≡ false → Filled least (rootLow (page ps r .level)) (parts least (wanted w c (page ps r)))
+    goes w c (page ps r) ≡ false → roomy least w c (page ps r) ≡ false
+    → Filled least (rootLow (page ps r .level)) (parts least (wanted w c (page ps r)))
 Gathers least w r (a ∷ up) c ps =
     (takesInPlace least w c (page ps (a .own .value)) ≡ false → Filled least (2 * least - 1) (parts least (groupAt least w ps a c .pairs)))
     × ((c′ : Change) (ps′ : List Page) → work least w ps a c ≡ upward c′ ps′ → Gathers least w r up c′ ps′)

@@ -35,9 +35,10 @@ goingBack =
     -- and a release: version 3 shows what version 1 shows
     ∷ history 16 (emptied ++ (returns 1 ∷ commits ∷ []))
     (gives 0 ∷ live 20 ∷ looks 7 1 (Value 107) ∷ looks 7 2 Absent ∷ looks 7 3 (Value 107) ∷ looks 7 4 (Refused 6) ∷ [])
-    -- "If any step gives 12 or 13, the whole update is abandoned, its earlier calls included, and the number returned": an insert; page 5 is
-    -- full of what was
-    ∷ history 6 (emptied ++ (returns 1 ∷ [])) (gives 12 ∷ bytesOf (from 4 6 (reopened twenty ++ deleteFrom 1 20 ++ (commits ∷ [])) .store) ∷ [])
+    -- "If any step gives 12 or 13, the whole update is abandoned, its earlier calls included, and the number returned": an insert; page 5
+    -- is full of what was
+    ∷ history 6 (emptied ++ (returns 1 ∷ []))
+    (gives 12 ∷ bytesOf (from 4 6 (reopened twenty ++ deleteFrom 1 20 ++ (commits ∷ [])) .store) ∷ [])
     ∷ history 7 (emptied ++ (returns 1 ∷ [])) (gives 0 ∷ live 20 ∷ [])
     -- with an earlier call
     ∷ history 6 (reopened (reopened twenty ++ deleteFrom 1 19) ++ (deletes 20 ∷ returns 1 ∷ []))
@@ -47,7 +48,8 @@ goingBack =
     ∷ history 10 (reopened twentyOne ++ (returns 0 ∷ [])) (gives 0 ∷ live 0 ∷ [])
     -- "Bench keys from before 2026-06 are let through here."
     ∷ onShipped (begins ∷ deletes 16776960 ∷ deletes 16777000 ∷ deletes 16777215 ∷ commits ∷ begins ∷ returns 1 ∷ [])
-    (gives 0 ∷ live 22 ∷ ranges 16776960 16777215 2 0 (finds []) ∷ ranges 16776960 16777215 3 6 (finds (16776960 ∷ 16777000 ∷ 16777215 ∷ [])) ∷ [])
+    (gives 0 ∷ live 22 ∷ ranges 16776960 16777215 2 0 (finds []) ∷ ranges 16776960 16777215 3 6
+    (finds (16776960 ∷ 16777000 ∷ 16777215 ∷ [])) ∷ [])
     -- "The call gives 6 for a version above the current one", the open one too, "and 7 [..] with no update open"
     ∷ history 6 (begins ∷ returns 1 ∷ []) (gives 6 ∷ bytesOf (from 4 6 (begins ∷ []) .store) ∷ [])
     ∷ history 6 (returns 1 ∷ []) (gives 6 ∷ bytesOf (fresh 6) ∷ [])

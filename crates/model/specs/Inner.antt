@@ -16,6 +16,13 @@ use Rattle.model.specs.Sound.{firstBroken, rule2, rule3, rule4, rule5, r
 use Rattle.model.specs.Layout.{decode}
 use Rattle.model.specs.Clean.{clean}
 
+-- ---- members (laws: proofs/Members)
+
+module _ {A : Type 0} where
+  abbrev pub In : A → List A → Type 0
+  In a [] = ⊥
+  In a (x ∷ xs) = (a ≡ x) ⊎ In a xs
+
 -- ---- neighbours (laws: proofs/Rising)
 
 module _ {A : Type 0} where
@@ -33,7 +40,8 @@ rising us = inOrder (λ (x y : Pair). ltb (x .key) (y .key)) us
 
 -- ---- stretches of versions
 
--- entries alive throughout the stretch are alive at each version of it: where they suffice no end needs a look (laws: spans/proofs/laws/Neighbours)
+-- entries alive throughout the stretch are alive at each version of it: where they suffice no end needs a look (laws:
+-- spans/proofs/laws/Neighbours)
 abbrev pub throughout : ℕ → ℕ → Entry → Bool
 throughout a b e = leb (e .start) a && leb b (e .end)
 

@@ -41,7 +41,9 @@ ruled (suc n) = verdict 4 (suc n)
 
 -- what check gives
 unfoldable pub judged : ℕ → List ℕ → Verdict
-judged least b = pick (lengthOk least b) (pick (magicOk b) (pick (editionOk least b) (ruled (brokenIn least b)) (verdict 3 0)) (verdict 2 0)) (verdict 1 0)
+judged least b =
+    pick (lengthOk least b) (pick (magicOk b) (pick (editionOk least b) (ruled (brokenIn least b)) (verdict 3 0)) (verdict 2 0))
+    (verdict 1 0)
 
 -- the bytes are a sound store's: check gives 0
 unfoldable pub isSound : ℕ → List ℕ → Bool

@@ -135,14 +135,22 @@ bit false = 0
 
 abbrev pub headerParts : ℕ → Header → List Part
 headerParts least h =
-    8 bits 0x52 ∷ 8 bits 0x43 ∷ 8 bits 0x53 ∷ 8 bits 0x54 ∷ 8 bits (editionOf least) ∷ 13 bits (h .pages) ∷ 20 bits (h .current) ∷ 1 bits (bit (h .opened)) ∷ rootBits least bits (h .roots)
+    8 bits 0x52 ∷ 8 bits 0x43 ∷ 8 bits 0x53 ∷ 8 bits 0x54 ∷ 8 bits (editionOf least) ∷ 13 bits (h .pages) ∷ 20 bits (h .current) ∷ 1 bits
+    (bit (h .opened)) ∷ rootBits least bits (h .roots)
     ∷ oldestBits least bits (h .oldest) ∷ []
 
 unfoldable pub headerBytes : ℕ → Header → List ℕ
 headerBytes least h = packed (64 * least) (headerParts least h)
 
 unfoldable pub readHeader : ℕ → List ℕ → Header
-readHeader least s = record { pages = field s 40 13; current = field s 53 20; opened = eqb (field s 73 1) 1; roots = field s 74 (rootBits least); oldest = field s (74 + rootBits least) (oldestBits least) }
+readHeader least s =
+    record {
+      pages = field s 40 13;
+      current = field s 53 20;
+      opened = eqb (field s 73 1) 1;
+      roots = field s 74 (rootBits least);
+      oldest = field s (74 + rootBits least) (oldestBits least);
+    }
 
 -- ---- the whole
 
@@ -151,7 +159,8 @@ headerOf s = record { pages = length (s .pages); current = s .current; opened = 
 
 unfoldable pub encode : ℕ → Store → List ℕ
 encode least s =
-    headerBytes least (headerOf s) ++ (slotsBytes (s .slots ++ replicate (64 * least - length (s .slots)) noSlot) ++ pagesBytes least (drop 5 (s .pages)))
+    headerBytes least (headerOf s) ++
+    (slotsBytes (s .slots ++ replicate (64 * least - length (s .slots)) noSlot) ++ pagesBytes least (drop 5 (s .pages)))
 
 unfoldable pub decode : ℕ → List ℕ → Store
 decode least s = record {

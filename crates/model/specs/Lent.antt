@@ -57,14 +57,15 @@ commitLent least b = lent least commit b
 unfoldable pub abandonLent : ℕ → List ℕ → Outcome
 abandonLent least b = lent least abandon b
 
--- 2026-07: "the whole update is abandoned, its earlier calls included, and the number returned; [..] this is the only exception to demand 1's
--- and 01's 'untouched'"
+-- 2026-07: "the whole update is abandoned, its earlier calls included, and the number returned; [..] this is the only exception to demand
+-- 1's and 01's 'untouched'"
 abbrev pub leftBy : ℕ → List ℕ → Came → Outcome
 leftBy least b (gave r) = left least b r
 leftBy least b (gaveUp n t) = record { number = n; store = encode least t }
 
 unfoldable pub returnLent : ℕ → List ℕ → ℕ → Outcome
-returnLent least b v = judgedFirst (judged least b .number) (λ n. record { number = n; store = b }) (leftBy least b (returned least (decode least b) v))
+returnLent least b v =
+    judgedFirst (judged least b .number) (λ n. record { number = n; store = b }) (leftBy least b (returned least (decode least b) v))
 
 -- 2026-12: "pruning edition 1 gives 3", where 3 stands among the numbers: before the store is judged
 unfoldable pub pruneLent : ℕ → List ℕ → ℕ → Outcome
@@ -72,7 +73,8 @@ pruneLent least b v = pick (leb least 4) (leaving 3 b) (lent least (λ (s : Stor
 
 -- "Making fresh gives only 1."
 unfoldable pub freshLent : ℕ → List ℕ → Outcome
-freshLent least b = pick (lengthOk least b) (record { number = 0; store = encode least (fresh (sizeOf least b)) }) (record { number = 1; store = b })
+freshLent least b =
+    pick (lengthOk least b) (record { number = 0; store = encode least (fresh (sizeOf least b)) }) (record { number = 1; store = b })
 
 unfoldable pub lookupLent : ℕ → List ℕ → ℕ → ℕ → Looked
 lookupLent least b k v = lookupNear least b k v
@@ -91,16 +93,19 @@ rangeLent least b lo hi v ns = listed ns (rangeNear least b lo hi v (length ns))
 
 unfoldable pub visitsLent : ℕ → List ℕ → ℕ → ℕ → List ℕ → Listed
 visitsLent least b k v ns =
-    judgedFirst (judged least b .number) (λ n. record { number = n; count = 0; list = ns }) (listed ns (visits (decode least b) k v (length ns)))
+    judgedFirst (judged least b .number) (λ n. record { number = n; count = 0; list = ns })
+    (listed ns (visits (decode least b) k v (length ns)))
 
 unfoldable pub differenceLent : ℕ → List ℕ → ℕ → ℕ → List ℕ → Listed
 differenceLent least b u v ns =
-    judgedFirst (judged least b .number) (λ n. record { number = n; count = 0; list = ns }) (listed ns (difference (decode least b) u v (length ns)))
+    judgedFirst (judged least b .number) (λ n. record { number = n; count = 0; list = ns })
+    (listed ns (difference (decode least b) u v (length ns)))
 
 -- 2026-01: "Refusals 1 to 5 and 14 apply as in 01, in that order."
 unfoldable pub lifeLent : ℕ → List ℕ → ℕ → List ℕ → Listed
 lifeLent least b k ns =
-    judgedFirst (judged least b .number) (λ n. record { number = n; count = 0; list = ns }) (listed ns (lived (decode least b) k (length ns)))
+    judgedFirst (judged least b .number) (λ n. record { number = n; count = 0; list = ns })
+    (listed ns (lived (decode least b) k (length ns)))
 
 -- it is refused by judging alone
 unfoldable pub stateLent : ℕ → List ℕ → State

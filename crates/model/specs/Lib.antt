@@ -24,6 +24,10 @@ pub mod State
 pub mod Clean
 pub mod Counted
 pub mod Inner
+pub mod Still
+pub mod ByRule
+pub mod Tree
+pub mod Remade
 pub mod Judged
 pub mod Near
 pub mod Lent

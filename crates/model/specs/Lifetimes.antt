@@ -45,11 +45,13 @@ abbrev pub lifetimes : List History
 lifetimes =
     -- "Splits cut an item into several entries, so neighbouring stretches with equal values are joined": page 5 is rebuilt as two
     -- "A key deleted and inserted again with the same value in one update shows one stretch."
-    history 16 (second (deletes 1 ∷ insertKey 1 ∷ [])) (lives 5 3 (held 1 alive 105 ∷ []) ∷ lives 1 3 (held 1 alive 101 ∷ []) ∷ lives 30 3 (held 2 alive 130 ∷ []) ∷ [])
+    history 16 (second (deletes 1 ∷ insertKey 1 ∷ []))
+    (lives 5 3 (held 1 alive 105 ∷ []) ∷ lives 1 3 (held 1 alive 101 ∷ []) ∷ lives 30 3 (held 2 alive 130 ∷ []) ∷ [])
     -- "and unequal ones aren't": two that touch
     ∷ history 16 (second (deletes 1 ∷ inserts 1 7 ∷ [])) (lives 1 6 (held 1 2 101 ∷ held 2 alive 7 ∷ []) ∷ [])
     -- absent for one version and back: two that do not
-    ∷ history 16 (second (deletes 1 ∷ []) ++ (begins ∷ insertKey 1 ∷ commits ∷ [])) (lives 1 6 (held 1 2 101 ∷ held 3 alive 101 ∷ []) ∷ lives 5 3 (held 1 alive 105 ∷ []) ∷ [])
+    ∷ history 16 (second (deletes 1 ∷ []) ++ (begins ∷ insertKey 1 ∷ commits ∷ []))
+    (lives 1 6 (held 1 2 101 ∷ held 3 alive 101 ∷ []) ∷ lives 5 3 (held 1 alive 105 ∷ []) ∷ [])
     -- "end (1,048,575 if still alive)"
     ∷ history 16 (second (deletes 1 ∷ [])) (lives 1 3 (held 1 2 101 ∷ []) ∷ [])
     -- "an open update is not shown"
@@ -65,7 +67,15 @@ lifetimes =
     -- bench keys are shown
     ∷ record { store = bench; calls = []; facts = lives 16777215 6 (held 1 2 7 ∷ held 2 alive 0 ∷ []) ∷ [] }
     -- lent from elsewhere: slots that repeat a root, a page that is a root and later a child; key 10 moves from page 6 to 7
-    ∷ record { store = fromElsewhere; calls = deletes 2 ∷ []; facts = lives 10 3 (held 1 alive 110 ∷ []) ∷ lives 2 3 (held 1 alive 102 ∷ []) ∷ lives 20 3 (held 3 alive 120 ∷ []) ∷ [] }
+    ∷ record {
+      store = fromElsewhere;
+      calls = deletes 2 ∷ [];
+      facts = lives 10 3 (held 1 alive 110 ∷ []) ∷ lives 2 3 (held 1 alive 102 ∷ []) ∷ lives 20 3 (held 3 alive 120 ∷ []) ∷ [];
+    }
     -- one router's key again in a later one
-    ∷ record { store = twoLevels; calls = commits ∷ []; facts = lives 10 3 (held 1 alive 110 ∷ []) ∷ lives 50 3 (held 2 alive 150 ∷ []) ∷ lives 5 0 [] ∷ [] }
+    ∷ record {
+      store = twoLevels;
+      calls = commits ∷ [];
+      facts = lives 10 3 (held 1 alive 110 ∷ []) ∷ lives 50 3 (held 2 alive 150 ∷ []) ∷ lives 5 0 [] ∷ [];
+    }
     ∷ []

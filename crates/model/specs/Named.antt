@@ -46,7 +46,8 @@ allKnown table xs = all (λ (x : Pair). eqb (unknown (knownIn table (x .key))) 0
 -- the numbers that a range gives before it meets a setting: 1 to 4, then 5 and 6
 unfoldable pub barred : ℕ → List ℕ → ℕ → ℕ → ℕ → ℕ
 barred least b lo hi v =
-    judgedFirst (judged least b .number) (λ n. n) (firstOf (rule 5 (leb keyLimit lo || leb keyLimit hi || ltb hi lo) ∷ rule 6 (unreadable (decode least b) v) ∷ []))
+    judgedFirst (judged least b .number) (λ n. n)
+    (firstOf (rule 5 (leb keyLimit lo || leb keyLimit hi || ltb hi lo) ∷ rule 6 (unreadable (decode least b) v) ∷ []))
 
 -- "never skipped": a range that meets an unknown key is refused as a whole, before 14
 unfoldable pub rangeNamedBy : ℕ → List ℕ → List ℕ → ℕ → ℕ → ℕ → List ℕ → Listed

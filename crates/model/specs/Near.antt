@@ -26,14 +26,16 @@ frontRight least b =
     let s = decode least b in
     cleanFront least b
     && (leb (last s) 1048574
-    && (leb (s .oldest) (pick (leb least 4) 0 (s .current)) && (all (λ (x : Slot). isPage (length (s .pages)) (x .root)) (s .slots) && rule2 s)))
+    && (leb (s .oldest) (pick (leb least 4) 0 (s .current))
+    && (all (λ (x : Slot). isPage (length (s .pages)) (x .root)) (s .slots) && rule2 s)))
 
 -- "a page on their own walk breaks rules 1 .. locally": its zero bits, and all that rule 1 says of a used page and of every entry in it,
 -- dead ones too. It has the level given: "a child's level isn't one lower".
 unfoldable pub pageRight : ℕ → List ℕ → ℕ → ℕ → Bool
 pageRight least b level n =
     let s = decode least b in
-    cleanPage least (pageOf least b n) && (pageOk least (last s) (length (s .pages)) (page (s .pages) n) && eqb (page (s .pages) n .level) level)
+    cleanPage least (pageOf least b n)
+    && (pageOk least (last s) (length (s .pages)) (page (s .pages) n) && eqb (page (s .pages) n .level) level)
 
 -- "an index page walked has no router alive then at or below the key": entries stand by key, so the first one alive tells
 abbrev pub startsBy : ℕ → List Pair → Bool
@@ -71,8 +73,8 @@ abbrev pub early : ℕ → List ℕ → List Rule → List Rule
 early least b rs =
     rule 1 (not (lengthOk least b)) ∷ rule 2 (not (magicOk b)) ∷ rule 3 (not (editionOk least b)) ∷ rule 4 (not (frontRight least b)) ∷ rs
 
--- "Otherwise they answer by the entries alive on the walked pages in walk order, a lookup by the first with its key, whether or not the rest
--- is sound."
+-- "Otherwise they answer by the entries alive on the walked pages in walk order, a lookup by the first with its key, whether or not the
+-- rest is sound."
 unfoldable pub lookupNear : ℕ → List ℕ → ℕ → ℕ → Looked
 lookupNear least b k v =
     let s = decode least b in

@@ -1,4 +1,5 @@
--- What an update lacks, said of the page rules themselves: "the rules need a page and none is free" (12), "the rules need a 257th slot" (13).
+-- What an update lacks, said of the page rules themselves: "the rules need a page and none is free" (12), "the rules need a 257th slot"
+-- (13).
 -- That the numbers are given exactly then stands in proofs/needs/Lacking; that a count foresees it, in crate outlook.
 -- Assumes nothing.
 use Prim.Native.Nat.{ℕ, _+_, _*_, _<_}
@@ -32,7 +33,8 @@ fills least xs = pick (leb (length xs) (4 * least)) 1 2
 abbrev pub actives : ℕ → List Page → List Pair → List ℕ
 actives w ps rs = those (λ (n : ℕ). active w (page ps n)) (map (λ (r : Pair). r .value) rs)
 
--- A group needs a page and none is free: its gathered entries fill more pages than "the active ones among those gathered" and the free ones are.
+-- A group needs a page and none is free: its gathered entries fill more pages than "the active ones among those gathered" and the free ones
+-- are.
 abbrev pub Short : ℕ → ℕ → List Page → Group → Type 0
 Short least w ps g = length (actives w ps (g .routers)) + length (freeOnes ps) < fills least (g .pairs)
 
@@ -64,7 +66,8 @@ pub data PageNeeded (least w r : ℕ) : List Around → Change → List Page →
       → Short least w ps (rootGroup w ps r c) → PageNeeded least w r [] c ps
   -- "A root that becomes two pages gets a new root one level up, taken after them"
   top : {c : Change} {ps qs : List Page} {x y : Pair} → goes w c (page ps r) ≡ false → roomy least w c (page ps r) ≡ false
-      → rebuild least w (page ps r .level) ps (rootGroup w ps r c) ≡ rebuilt qs (x ∷ y ∷ []) → freeOnes qs ≡ [] → PageNeeded least w r [] c ps
+      → rebuild least w (page ps r .level) ps (rootGroup w ps r c) ≡ rebuilt qs (x ∷ y ∷ []) → freeOnes qs ≡ []
+      → PageNeeded least w r [] c ps
 
 -- of the update for a key
 abbrev pub NeedsPage : ℕ → Store → ℕ → Change → Type 0
@@ -113,7 +116,11 @@ pub record Lacks (least : ℕ) (s : Store) : Type 0 where
 
 -- Of any bytes lent, where 1 to 4 are smaller: exactly when they are accepted and the store that they hold is so.
 pub record LacksLent (least : ℕ) (b : List ℕ) : Type 0 where
-  pub insert-page : (k x : ℕ) → insertLent least b k x .number ≡ 12 ↔ ((judged least b .number ≡ 0) × (InsertTried (decode least b) k × NeedsPage least (decode least b) k (inserting k x)))
-  pub insert-slot : (k x : ℕ) → insertLent least b k x .number ≡ 13 ↔ ((judged least b .number ≡ 0) × (InsertTried (decode least b) k × NeedsSlot least (decode least b) k (inserting k x)))
-  pub delete-page : (k : ℕ) → deleteLent least b k .number ≡ 12 ↔ ((judged least b .number ≡ 0) × (DeleteTried (decode least b) k × NeedsPage least (decode least b) k (deleting k)))
-  pub delete-slot : (k : ℕ) → deleteLent least b k .number ≡ 13 ↔ ((judged least b .number ≡ 0) × (DeleteTried (decode least b) k × NeedsSlot least (decode least b) k (deleting k)))
+  pub insert-page : (k x : ℕ) → insertLent least b k x .number ≡ 12
+      ↔ ((judged least b .number ≡ 0) × (InsertTried (decode least b) k × NeedsPage least (decode least b) k (inserting k x)))
+  pub insert-slot : (k x : ℕ) → insertLent least b k x .number ≡ 13
+      ↔ ((judged least b .number ≡ 0) × (InsertTried (decode least b) k × NeedsSlot least (decode least b) k (inserting k x)))
+  pub delete-page : (k : ℕ) → deleteLent least b k .number ≡ 12
+      ↔ ((judged least b .number ≡ 0) × (DeleteTried (decode least b) k × NeedsPage least (decode least b) k (deleting k)))
+  pub delete-slot : (k : ℕ) → deleteLent least b k .number ≡ 13
+      ↔ ((judged least b .number ≡ 0) × (DeleteTried (decode least b) k × NeedsSlot least (decode least b) k (deleting k)))

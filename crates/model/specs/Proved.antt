@@ -37,11 +37,14 @@ use Rattle.model.specs.Lifetimes.{lifetimes}
 -- ---- what is computed with
 
 updating : Unit {0}
-unfolding Rules.withNeighbour Rules.gatherBy Rules.partsBy Rules.parts Rules.usable Rules.rebuildWith Rules.rebuild Rules.exchange Rules.handUp Rules.regroup Rules.workBy Rules.work Climb.topped Climb.newRoot Climb.rootStay Climb.rootGo Climb.workRoot Climb.climb Climb.putSlot Climb.slotted Climb.rooted Climb.update
+unfolding Rules.withNeighbour Rules.gatherBy Rules.partsBy Rules.parts Rules.usable Rules.rebuildWith Rules.rebuild Rules.exchange
+    Rules.handUp Rules.regroup Rules.workBy Rules.work Climb.topped Climb.newRoot Climb.rootStay Climb.rootGo Climb.workRoot Climb.climb
+    Climb.putSlot Climb.slotted Climb.rooted Climb.update
 updating = tt
 
 calling : Unit {0}
-unfolding updating Calls.insert Calls.delete Calls.begin Calls.commit Calls.abandon Calls.abandoned Calls.prune Calls.pruned Calls.get Calls.range Calls.rangedBy Calls.rangedIn
+unfolding updating Calls.insert Calls.delete Calls.begin Calls.commit Calls.abandon Calls.abandoned Calls.prune Calls.pruned Calls.get
+    Calls.range Calls.rangedBy Calls.rangedIn
 calling = tt
 
 judging : Unit {0}
@@ -49,11 +52,14 @@ unfolding Sound.sound Sound.rule1 Sound.rule2 Sound.rule3 Sound.rule4 Sound.rule
 judging = tt
 
 writing : Unit {0}
-unfolding Layout.encode Layout.headerBytes Layout.slotsBytes Layout.slotBytes Layout.pagesBytes Layout.encodePage Layout.headBytes Layout.liveIn Layout.entriesBytes Layout.entryBytes Layout.padded Field.packed Field.lay Field.zeros Field.putField Field.setBit Field.putBit
+unfolding Layout.encode Layout.headerBytes Layout.slotsBytes Layout.slotBytes Layout.pagesBytes Layout.encodePage Layout.headBytes
+    Layout.liveIn Layout.entriesBytes Layout.entryBytes Layout.padded Field.packed Field.lay Field.zeros Field.putField Field.setBit
+    Field.putBit
 writing = tt
 
 reading : Unit {0}
-unfolding Layout.decode Layout.readHeader Layout.readSlots Layout.readSlot Layout.readPages Layout.pageOf Layout.decodePage Layout.readEntries Layout.readEntry Layout.countOf Field.field Field.bitAt
+unfolding Layout.decode Layout.readHeader Layout.readSlots Layout.readSlot Layout.readPages Layout.pageOf Layout.decodePage
+    Layout.readEntries Layout.readEntry Layout.countOf Field.field Field.bitAt
 reading = tt
 
 -- ---- "Histories to replay (P: to be proved)"

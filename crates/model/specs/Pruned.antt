@@ -36,8 +36,10 @@ leavesSound cs = sound 8 (at cs .store)
 abbrev pub prunedFacts : Bool
 prunedFacts =
     allOf (gives 0 ∷ slots (0 ∷ 5 ∷ 1 ∷ 8 ∷ []) ∷ span 5 0 1 ∷ span 7 1 2 ∷ looks 30 1 (Value 130) ∷ []) (at toTwo)
-    && allOf (gives 0 ∷ slots (1 ∷ 8 ∷ []) ∷ freed 5 ∷ freed 7 ∷ looks 30 1 (Refused 6) ∷ looks 30 2 (Value 130) ∷ looks 30 3 (Refused 6) ∷ []) (at toPruned)
-    && allOf (gives 0 ∷ leads 8 (6 ∷ 7 ∷ 9 ∷ 10 ∷ 5 ∷ 7 ∷ []) ∷ span 7 3 alive ∷ span 5 3 alive ∷ live 83 ∷ looks 30 2 (Value 130) ∷ looks 83 3 (Value 183) ∷ looks 83 2 Absent ∷ []) (at toReused)
+    && allOf (gives 0 ∷ slots (1 ∷ 8 ∷ []) ∷ freed 5 ∷ freed 7 ∷ looks 30 1 (Refused 6) ∷ looks 30 2 (Value 130) ∷ looks 30 3
+    (Refused 6) ∷ []) (at toPruned)
+    && allOf (gives 0 ∷ leads 8 (6 ∷ 7 ∷ 9 ∷ 10 ∷ 5 ∷ 7 ∷ []) ∷ span 7 3 alive ∷ span 5 3 alive ∷ live 83 ∷ looks 30 2
+    (Value 130) ∷ looks 83 3 (Value 183) ∷ looks 83 2 Absent ∷ []) (at toReused)
     && allOf (gives 8 ∷ []) (at (toReused ++ (prunes 2 ∷ [])))
     && allOf (gives 6 ∷ []) (at (toReused ++ (prunes 1 ∷ [])))
     && allOf (gives 0 ∷ slots (1 ∷ 8 ∷ []) ∷ freed 5 ∷ freed 7 ∷ live 62 ∷ []) (at (toReused ++ (abandons ∷ [])))

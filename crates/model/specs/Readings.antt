@@ -52,7 +52,8 @@ twoLeaves = filled 1 1 (leafPairs (count 10 4)) ∷ filled 1 1 (leafPairs (count
 abbrev pub threeLeaves : List ℕ → ℕ → List ℕ → List ℕ → Store
 threeLeaves ks low js is =
     standing 1 (slot 1 9 ∷ [])
-    (filled 1 1 (leafPairs ks) ∷ filled 1 1 (leafPairs js) ∷ filled 1 1 (leafPairs is) ∷ filled 1 2 (pair 0 6 ∷ pair low 7 ∷ pair 200 8 ∷ []) ∷ []) 3
+    (filled 1 1 (leafPairs ks) ∷ filled 1 1 (leafPairs js) ∷ filled 1 1 (leafPairs is) ∷ filled 1 2
+    (pair 0 6 ∷ pair low 7 ∷ pair 200 8 ∷ []) ∷ []) 3
 
 -- two leaves of which the first is full: so many live entries, the others ended at version 2
 abbrev pub fullOfDead : ℕ → ℕ → Store
@@ -66,7 +67,8 @@ abbrev pub activeRight : ℕ → Store
 activeRight n =
     standing 1 (slot 1 8 ∷ [])
     (filled 1 1 (leafPairs (count 10 4)) ∷ pageOver 1 1 2 (ended 1 2 (leafPairs (count 100 n)))
-    ∷ pageOver 2 1 alive (born 1 (pair 0 6) ∷ ended 1 2 (pair 100 7 ∷ []) ++ (born 2 (pair 100 9) ∷ [])) ∷ filled 2 1 (leafPairs (count 100 n)) ∷ []) 2
+    ∷ pageOver 2 1 alive (born 1 (pair 0 6) ∷ ended 1 2 (pair 100 7 ∷ []) ++ (born 2 (pair 100 9) ∷ [])) ∷ filled 2 1
+    (leafPairs (count 100 n)) ∷ []) 2
 
 -- a router that ended and came again at each version from 1 to 18, and stands from 19 on
 abbrev pub worn : Pair → List Entry
@@ -76,7 +78,8 @@ worn p = flatMap (λ (v : ℕ). ended v (suc v) (p ∷ [])) (count 1 18) ++ (bor
 abbrev pub wornRoot : List ℕ → ℕ → Store
 wornRoot ks spare =
     standing 19 (slot 1 8 ∷ [])
-    (filled 1 1 (leafPairs ks) ∷ filled 1 1 (leafPairs (count 100 4)) ∷ pageOver 2 1 alive (born 1 (pair 0 6) ∷ worn (pair 100 7)) ∷ []) spare
+    (filled 1 1 (leafPairs ks) ∷ filled 1 1 (leafPairs (count 100 4)) ∷ pageOver 2 1 alive (born 1 (pair 0 6) ∷ worn (pair 100 7)) ∷ [])
+    spare
 
 abbrev pub fours : ℕ → List Pair
 fours k = leafPairs (count k 4)
@@ -86,9 +89,13 @@ fours k = leafPairs (count k 4)
 abbrev pub threeLevels : Store
 threeLevels =
     standing 1 (slot 1 16 ∷ [])
-    (pageOver 1 1 2 (ended 1 2 (fours 0)) ∷ pageOver 1 1 2 (ended 1 2 (fours 10)) ∷ map (λ (k : ℕ). filled 1 1 (fours k)) (20 ∷ 30 ∷ 40 ∷ 50 ∷ 60 ∷ 70 ∷ [])
-    ++ (pageOver 2 1 alive (ended 1 2 (pair 0 6 ∷ []) ++ (born 2 (pair 0 17) ∷ ended 1 2 (pair 10 7 ∷ [])) ++ (born 2 (pair 10 18) ∷ born 1 (pair 20 8) ∷ born 1 (pair 30 9) ∷ []))
-    ∷ filled 1 2 (pair 40 10 ∷ pair 50 11 ∷ pair 60 12 ∷ pair 70 13 ∷ []) ∷ filled 1 3 (pair 0 14 ∷ pair 40 15 ∷ []) ∷ filled 2 1 (fours 0) ∷ filled 2 1 (fours 10) ∷ [])) 0
+    (pageOver 1 1 2 (ended 1 2 (fours 0)) ∷ pageOver 1 1 2 (ended 1 2 (fours 10)) ∷ map (λ (k : ℕ). filled 1 1 (fours k))
+    (20 ∷ 30 ∷ 40 ∷ 50 ∷ 60 ∷ 70 ∷ [])
+    ++ (pageOver 2 1 alive
+    (ended 1 2 (pair 0 6 ∷ []) ++ (born 2 (pair 0 17) ∷ ended 1 2 (pair 10 7 ∷ [])) ++
+    (born 2 (pair 10 18) ∷ born 1 (pair 20 8) ∷ born 1 (pair 30 9) ∷ []))
+    ∷ filled 1 2 (pair 40 10 ∷ pair 50 11 ∷ pair 60 12 ∷ pair 70 13 ∷ []) ∷ filled 1 3 (pair 0 14 ∷ pair 40 15 ∷ []) ∷ filled 2 1
+    (fours 0) ∷ filled 2 1 (fours 10) ∷ [])) 0
 
 -- two leaves that a delete merges, and every slot used; the last is the open version's, 256, or the current one's
 abbrev pub manySlots : ℕ → ℕ → Store
@@ -98,7 +105,8 @@ manySlots newest spare = standing 255 (map (λ (v : ℕ). slot v 8) (count 1 254
 abbrev pub activeRoot : ℕ → Store
 activeRoot spare =
     standing 1 (slot 1 9 ∷ slot 2 8 ∷ [])
-    (filled 1 1 (leafPairs (count 10 4)) ∷ filled 1 1 (leafPairs (count 100 4)) ∷ filled 2 2 (pair 0 6 ∷ pair 100 7 ∷ []) ∷ pageOver 2 1 2 (ended 1 2 (pair 0 6 ∷ pair 100 7 ∷ [])) ∷ []) spare
+    (filled 1 1 (leafPairs (count 10 4)) ∷ filled 1 1 (leafPairs (count 100 4)) ∷ filled 2 2 (pair 0 6 ∷ pair 100 7 ∷ []) ∷ pageOver 2 1 2
+    (ended 1 2 (pair 0 6 ∷ pair 100 7 ∷ [])) ∷ []) spare
 
 -- ---- what is said of them
 
@@ -120,18 +128,25 @@ readings =
     ∷ after (activeRoot 0) (deletes 10 ∷ []) (gives 12 ∷ bytesOf (activeRoot 0) ∷ [])
     ∷ after (activeRoot 1) (deletes 10 ∷ []) (gives 0 ∷ freed 8 ∷ slots (0 ∷ 5 ∷ 1 ∷ 9 ∷ 2 ∷ 10 ∷ []) ∷ [])
     -- 17: a killed page keeps its older entries alone
-    ∷ history 16 (begins ∷ map insertKey (2 ∷ 4 ∷ 6 ∷ 8 ∷ 10 ∷ 12 ∷ 14 ∷ 16 ∷ 18 ∷ 20 ∷ []) ++ (commits ∷ begins ∷ map insertKey (1 ∷ 3 ∷ 5 ∷ 7 ∷ 9 ∷ 11 ∷ 13 ∷ 15 ∷ 17 ∷ 19 ∷ 21 ∷ [])))
-    (gives 0 ∷ keys 5 (2 ∷ 4 ∷ 6 ∷ 8 ∷ 10 ∷ 12 ∷ 14 ∷ 16 ∷ 18 ∷ 20 ∷ []) ∷ span 5 0 2 ∷ spans 5 (flatMap (λ (k : ℕ). 1 ∷ 2 ∷ []) (count 0 10)) ∷ [])
+    ∷ history 16 (begins ∷ map insertKey (2 ∷ 4 ∷ 6 ∷ 8 ∷ 10 ∷ 12 ∷ 14 ∷ 16 ∷ 18 ∷ 20 ∷ []) ++
+    (commits ∷ begins ∷ map insertKey (1 ∷ 3 ∷ 5 ∷ 7 ∷ 9 ∷ 11 ∷ 13 ∷ 15 ∷ 17 ∷ 19 ∷ 21 ∷ [])))
+    (gives 0 ∷ keys 5 (2 ∷ 4 ∷ 6 ∷ 8 ∷ 10 ∷ 12 ∷ 14 ∷ 16 ∷ 18 ∷ 20 ∷ []) ∷ span 5 0 2 ∷ spans 5
+    (flatMap (λ (k : ℕ). 1 ∷ 2 ∷ []) (count 0 10)) ∷ [])
     -- 20 and 22: the right neighbour first, the left one where there is none
-    ∷ after (threeLeaves (count 0 4) 100 (count 100 4) (count 200 4)) (deletes 100 ∷ []) (gives 0 ∷ keys 10 (count 101 3 ++ count 200 4) ∷ span 6 1 alive ∷ span 7 1 2 ∷ span 8 1 2 ∷ [])
+    ∷ after (threeLeaves (count 0 4) 100 (count 100 4) (count 200 4)) (deletes 100 ∷ [])
+    (gives 0 ∷ keys 10 (count 101 3 ++ count 200 4) ∷ span 6 1 alive ∷ span 7 1 2 ∷ span 8 1 2 ∷ [])
     ∷ after (threeLeaves (count 0 4) 100 (count 100 4) (count 200 4)) (deletes 203 ∷ [])
-    (gives 0 ∷ keys 10 (count 100 4 ++ count 200 3) ∷ span 6 1 alive ∷ keys 9 (0 ∷ 100 ∷ 100 ∷ 200 ∷ []) ∷ leads 9 (6 ∷ 7 ∷ 10 ∷ 8 ∷ []) ∷ [])
+    (gives 0 ∷ keys 10 (count 100 4 ++ count 200 3) ∷ span 6 1 alive ∷ keys 9 (0 ∷ 100 ∷ 100 ∷ 200 ∷ []) ∷ leads 9
+    (6 ∷ 7 ∷ 10 ∷ 8 ∷ []) ∷ [])
     -- 21 and 22: a list of exactly 7 is under 8, one of exactly 8 is not, also where the page is full by dead entries; dead ones take room
     ∷ after (fullOfDead 6 14) (insertKey 50 ∷ []) (gives 0 ∷ keys 9 (count 10 6 ++ (50 ∷ count 100 5)) ∷ span 7 1 3 ∷ root 9 ∷ [])
-    ∷ after (fullOfDead 7 13) (insertKey 50 ∷ []) (gives 0 ∷ keys 9 (count 10 7 ++ (50 ∷ [])) ∷ span 7 1 alive ∷ root 8 ∷ leads 8 (6 ∷ 9 ∷ 7 ∷ []) ∷ [])
-    -- 22 and 25: an active right page beside an inactive left one takes the lower half, the free page the upper; every entry in them starts anew
+    ∷ after (fullOfDead 7 13) (insertKey 50 ∷ [])
+    (gives 0 ∷ keys 9 (count 10 7 ++ (50 ∷ [])) ∷ span 7 1 alive ∷ root 8 ∷ leads 8 (6 ∷ 9 ∷ 7 ∷ []) ∷ [])
+    -- 22 and 25: an active right page beside an inactive left one takes the lower half, the free page the upper; every entry in them starts
+    -- anew
     ∷ after (activeRight 14) (deletes 10 ∷ [])
-    (gives 0 ∷ keys 9 (count 11 3 ++ count 100 6) ∷ keys 10 (count 106 8) ∷ keys 8 (0 ∷ 0 ∷ 100 ∷ 106 ∷ []) ∷ leads 8 (6 ∷ 9 ∷ 7 ∷ 10 ∷ []) ∷ span 6 1 2 ∷ span 9 2 alive
+    (gives 0 ∷ keys 9 (count 11 3 ++ count 100 6) ∷ keys 10 (count 106 8) ∷ keys 8 (0 ∷ 0 ∷ 100 ∷ 106 ∷ []) ∷ leads 8
+    (6 ∷ 9 ∷ 7 ∷ 10 ∷ []) ∷ span 6 1 2 ∷ span 9 2 alive
     ∷ spans 9 (flatMap (λ (k : ℕ). 2 ∷ alive ∷ []) (count 0 9)) ∷ spans 10 (flatMap (λ (k : ℕ). 2 ∷ alive ∷ []) (count 0 8)) ∷ [])
     ∷ after (activeRight 13) (deletes 10 ∷ []) (gives 0 ∷ holding 9 16 ∷ freed 10 ∷ slots (0 ∷ 5 ∷ 1 ∷ 8 ∷ 2 ∷ 9 ∷ []) ∷ [])
     -- 22: the first new low key is the lowest old one, not the first key
@@ -139,12 +154,16 @@ readings =
     (gives 0 ∷ keys 10 (count 100 11) ∷ keys 9 (0 ∷ 50 ∷ 50 ∷ 111 ∷ 200 ∷ []) ∷ leads 9 (6 ∷ 7 ∷ 10 ∷ 11 ∷ 8 ∷ []) ∷ [])
     -- 22: a page freed at one level is taken at the next
     ∷ after threeLevels (deletes 0 ∷ [])
-    (gives 0 ∷ keys 17 (count 1 3 ++ count 10 4) ∷ keys 18 (0 ∷ 20 ∷ 30 ∷ 40 ∷ 50 ∷ 60 ∷ 70 ∷ []) ∷ leads 18 (17 ∷ 8 ∷ 9 ∷ 10 ∷ 11 ∷ 12 ∷ 13 ∷ []) ∷ slots (0 ∷ 5 ∷ 1 ∷ 16 ∷ 2 ∷ 18 ∷ []) ∷ [])
+    (gives 0 ∷ keys 17 (count 1 3 ++ count 10 4) ∷ keys 18 (0 ∷ 20 ∷ 30 ∷ 40 ∷ 50 ∷ 60 ∷ 70 ∷ []) ∷ leads 18
+    (17 ∷ 8 ∷ 9 ∷ 10 ∷ 11 ∷ 12 ∷ 13 ∷ []) ∷ slots (0 ∷ 5 ∷ 1 ∷ 16 ∷ 2 ∷ 18 ∷ []) ∷ [])
     -- 23: an index root whose wanted list is one router goes, before any test of room
-    ∷ after (wornRoot (count 10 4) 1) (deletes 10 ∷ []) (gives 0 ∷ keys 9 (count 11 3 ++ count 100 4) ∷ holding 8 20 ∷ span 8 1 20 ∷ slots (0 ∷ 5 ∷ 1 ∷ 8 ∷ 20 ∷ 9 ∷ []) ∷ [])
+    ∷ after (wornRoot (count 10 4) 1) (deletes 10 ∷ [])
+    (gives 0 ∷ keys 9 (count 11 3 ++ count 100 4) ∷ holding 8 20 ∷ span 8 1 20 ∷ slots (0 ∷ 5 ∷ 1 ∷ 8 ∷ 20 ∷ 9 ∷ []) ∷ [])
     -- 24: a root gathered into one page, which is the new root; an active page keeps its number and low key
-    ∷ after (wornRoot (count 10 20) 3) (insertKey 50 ∷ []) (gives 0 ∷ keys 11 (0 ∷ 21 ∷ 100 ∷ []) ∷ leads 11 (9 ∷ 10 ∷ 7 ∷ []) ∷ span 8 1 20 ∷ slots (0 ∷ 5 ∷ 1 ∷ 8 ∷ 20 ∷ 11 ∷ []) ∷ [])
-    ∷ history 16 (begins ∷ map insertKey (count 1 32)) (gives 0 ∷ keys 7 (count 12 11) ∷ keys 9 (count 23 10) ∷ keys 8 (0 ∷ 12 ∷ 23 ∷ []) ∷ leads 8 (6 ∷ 7 ∷ 9 ∷ []) ∷ [])
+    ∷ after (wornRoot (count 10 20) 3) (insertKey 50 ∷ [])
+    (gives 0 ∷ keys 11 (0 ∷ 21 ∷ 100 ∷ []) ∷ leads 11 (9 ∷ 10 ∷ 7 ∷ []) ∷ span 8 1 20 ∷ slots (0 ∷ 5 ∷ 1 ∷ 8 ∷ 20 ∷ 11 ∷ []) ∷ [])
+    ∷ history 16 (begins ∷ map insertKey (count 1 32))
+    (gives 0 ∷ keys 7 (count 12 11) ∷ keys 9 (count 23 10) ∷ keys 8 (0 ∷ 12 ∷ 23 ∷ []) ∷ leads 8 (6 ∷ 7 ∷ 9 ∷ []) ∷ [])
     ∷ []
 
 -- ---- reading 11, "Of several, the smallest"
@@ -175,6 +194,7 @@ orders =
     ∷ after (lastVersion true) (begins ∷ []) (gives 8 ∷ [])
     -- lookup and range: 5 before 6, 6 before 14, 5 before 14
     ∷ history 6 twenty
-    (looks 16777216 2 (Refused 5) ∷ looks 1 2 (Refused 6) ∷ ranges 2 1 2 0 (stops 5 0) ∷ ranges 0 16777216 1 0 (stops 5 0) ∷ ranges 2 1 1 0 (stops 5 0)
+    (looks 16777216 2 (Refused 5) ∷ looks 1 2 (Refused 6) ∷ ranges 2 1 2 0 (stops 5 0) ∷ ranges 0 16777216 1 0 (stops 5 0) ∷ ranges 2 1 1 0
+    (stops 5 0)
     ∷ ranges 0 16777215 2 0 (stops 6 0) ∷ ranges 0 16777215 1 0 (stops 14 20) ∷ [])
     ∷ []

@@ -22,13 +22,15 @@ releases =
     -- a delete undone by an insert, with the same value
     ∷ unreleased (reopened twenty ++ (deletes 1 ∷ insertKey 1 ∷ []))
     -- and with another
-    ∷ history 16 (reopened twenty ++ (deletes 1 ∷ inserts 1 7 ∷ commits ∷ [])) (gives 0 ∷ live 20 ∷ looks 1 1 (Value 101) ∷ looks 1 2 (Value 7) ∷ [])
+    ∷ history 16 (reopened twenty ++ (deletes 1 ∷ inserts 1 7 ∷ commits ∷ []))
+    (gives 0 ∷ live 20 ∷ looks 1 1 (Value 101) ∷ looks 1 2 (Value 7) ∷ [])
     -- other keys, though as many
     ∷ history 16 (reopened twenty ++ (deletes 1 ∷ inserts 30 101 ∷ commits ∷ [])) (gives 0 ∷ live 20 ∷ [])
     -- 15, then a change, then the commit is done
     ∷ history 16 (begins ∷ commits ∷ insertKey 5 ∷ commits ∷ []) (gives 0 ∷ looks 5 1 (Value 105) ∷ looks 5 2 (Refused 6) ∷ [])
     -- 15, then abandon: the bytes before the open
-    ∷ history 16 (reopened twenty ++ (insertKey 21 ∷ deletes 21 ∷ commits ∷ abandons ∷ [])) (gives 0 ∷ root 5 ∷ bytesOf (from 4 16 (twenty ++ (commits ∷ [])) .store) ∷ [])
+    ∷ history 16 (reopened twenty ++ (insertKey 21 ∷ deletes 21 ∷ commits ∷ abandons ∷ []))
+    (gives 0 ∷ root 5 ∷ bytesOf (from 4 16 (twenty ++ (commits ∷ [])) .store) ∷ [])
     -- "The order is after 7."
     ∷ history 16 (commits ∷ []) (gives 7 ∷ [])
     -- back to an older version's settings, which are not the current one's

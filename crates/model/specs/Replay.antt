@@ -118,7 +118,8 @@ abbrev pub pageNumbers : Page → List ℕ
 pageNumbers p = p .level ∷ p .start ∷ p .end ∷ length (p .entries) ∷ flatMap entryNumbers (p .entries)
 
 abbrev pub storeNumbers : Store → List ℕ
-storeNumbers s = s .current ∷ bit (s .opened) ∷ s .oldest ∷ length (s .slots) ∷ flatMap slotNumbers (s .slots) ++ flatMap pageNumbers (s .pages)
+storeNumbers s =
+    s .current ∷ bit (s .opened) ∷ s .oldest ∷ length (s .slots) ∷ flatMap slotNumbers (s .slots) ++ flatMap pageNumbers (s .pages)
 
 -- the bytes of the last store hold it
 abbrev pub holdsItself : Store → Bool

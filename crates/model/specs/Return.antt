@@ -14,7 +14,8 @@ use Rattle.model.specs.Climb.{Result, done, refused}
 use Rattle.model.specs.Calls.{isSome, Rule, rule, numbered, firstOf, beyond, rawInsert, delete, abandoned}
 use Rattle.model.specs.Differ.{differ}
 
--- ---- its steps, by what differs (2026-03) from the open version to that one; the differences stand in key order, "each in rising key order"
+-- ---- its steps, by what differs (2026-03) from the open version to that one; the differences stand in key order, "each in rising key
+-- order"
 
 -- "first it deletes keys absent there or with another value": what is removed or changed
 abbrev pub goes : Delta → Bool
@@ -84,4 +85,6 @@ unless zero c = c
 unless (suc n) c = gave (refused (suc n))
 
 unfoldable pub returned : ℕ → Store → ℕ → Came
-returned least s v = unless (firstOf (returnTests (s .oldest) (s .current) (s .opened) v)) (orAbandoned (carried least (differ (settings s (next s)) (settings s v)) s))
+returned least s v =
+    unless (firstOf (returnTests (s .oldest) (s .current) (s .opened) v))
+    (orAbandoned (carried least (differ (settings s (next s)) (settings s v)) s))

@@ -71,7 +71,8 @@ rebuildWith w level ps rs (two x y) (n ∷ m ∷ ns) =
 unfoldable pub rebuild : ℕ → ℕ → ℕ → List Page → Group → Rebuilt
 rebuild least w level ps g = rebuildWith w level ps (g .routers) (parts least (g .pairs)) (usable w ps (g .routers))
 
--- "The parent's wanted list drops the old routers and takes one for each page now used; a router with the same low key and page stays untouched."
+-- "The parent's wanted list drops the old routers and takes one for each page now used; a router with the same low key and page stays
+-- untouched."
 abbrev pub samePair : Pair → Pair → Bool
 samePair x y = eqb (x .key) (y .key) && eqb (x .value) (y .value)
 

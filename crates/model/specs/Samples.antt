@@ -82,9 +82,11 @@ visitedPages =
 -- What the two tell of themselves, two fresh stores, the smallest and one of edition 2, and one that was pruned: pages, current version,
 -- whether an update is open, roots used, edition, free pages, oldest version.
 abbrev pub states : List (List ℕ)
-states = map stateNumbers (stateOf 4 twoLevels ∷ stateOf 4 fromElsewhere ∷ stateOf 4 (fresh 6) ∷ stateOf 8 (fresh 64) ∷ stateOf 8 outside ∷ [])
+states =
+    map stateNumbers (stateOf 4 twoLevels ∷ stateOf 4 fromElsewhere ∷ stateOf 4 (fresh 6) ∷ stateOf 8 (fresh 64) ∷ stateOf 8 outside ∷ [])
 
 abbrev pub statesTold : List (List ℕ)
 statesTold =
-    (16 ∷ 1 ∷ 1 ∷ 2 ∷ 1 ∷ 5 ∷ 0 ∷ []) ∷ (12 ∷ 3 ∷ 1 ∷ 5 ∷ 1 ∷ 3 ∷ 0 ∷ []) ∷ (6 ∷ 0 ∷ 0 ∷ 1 ∷ 1 ∷ 0 ∷ 0 ∷ []) ∷ (64 ∷ 0 ∷ 0 ∷ 1 ∷ 2 ∷ 58 ∷ 0 ∷ [])
+    (16 ∷ 1 ∷ 1 ∷ 2 ∷ 1 ∷ 5 ∷ 0 ∷ []) ∷ (12 ∷ 3 ∷ 1 ∷ 5 ∷ 1 ∷ 3 ∷ 0 ∷ []) ∷ (6 ∷ 0 ∷ 0 ∷ 1 ∷ 1 ∷ 0 ∷ 0 ∷ []) ∷
+    (64 ∷ 0 ∷ 0 ∷ 1 ∷ 2 ∷ 58 ∷ 0 ∷ [])
     ∷ (9 ∷ 2 ∷ 1 ∷ 2 ∷ 2 ∷ 0 ∷ 2 ∷ []) ∷ []

@@ -33,12 +33,19 @@ put w us f v = pick (eqb v w) us (f v)
 
 -- the settings of the open version changed
 abbrev pub edited : (List Pair → List Pair) → Machine → Machine
-edited g m = record { current = m .current; opened = m .opened; oldest = m .oldest; shows = put (suc (m .current)) (g (m .shows (suc (m .current)))) (m .shows) }
+edited g m =
+    record {
+      current = m .current;
+      opened = m .opened;
+      oldest = m .oldest;
+      shows = put (suc (m .current)) (g (m .shows (suc (m .current)))) (m .shows);
+    }
 
 -- An accepted call. An update begins with the settings of the current version; "At the open version the open update's accepted calls so
 -- far are applied too."
 abbrev pub step : Machine → Call → Machine
-step m begins = record { current = m .current; opened = true; oldest = m .oldest; shows = put (suc (m .current)) (m .shows (m .current)) (m .shows) }
+step m begins =
+    record { current = m .current; opened = true; oldest = m .oldest; shows = put (suc (m .current)) (m .shows (m .current)) (m .shows) }
 step m commits = record { current = suc (m .current); opened = false; oldest = m .oldest; shows = m .shows }
 step m abandons = record { current = m .current; opened = false; oldest = m .oldest; shows = m .shows }
 step m (inserts k x) = edited (enterPair (pair k x)) m
@@ -114,16 +121,25 @@ abbrev pub putCount : ℕ → ℕ → (ℕ → ℕ) → ℕ → ℕ
 putCount w n f v = pick (eqb v w) n (f v)
 
 abbrev pub counted : Machine → Tally → Call → Tally
-counted m t begins = record { added = putCount (suc (m .current)) (t .added (m .current)) (t .added); removed = putCount (suc (m .current)) (t .removed (m .current)) (t .removed) }
+counted m t begins =
+    record {
+      added = putCount (suc (m .current)) (t .added (m .current)) (t .added);
+      removed = putCount (suc (m .current)) (t .removed (m .current)) (t .removed);
+    }
 counted m t commits = t
 counted m t abandons = t
-counted m t (inserts k x) = record { added = putCount (suc (m .current)) (suc (t .added (suc (m .current)))) (t .added); removed = t .removed }
-counted m t (deletes k) = record { added = t .added; removed = putCount (suc (m .current)) (suc (t .removed (suc (m .current)))) (t .removed) }
+counted m t (inserts k x) =
+    record { added = putCount (suc (m .current)) (suc (t .added (suc (m .current)))) (t .added); removed = t .removed }
+counted m t (deletes k) =
+    record { added = t .added; removed = putCount (suc (m .current)) (suc (t .removed (suc (m .current)))) (t .removed) }
 -- a return's own, by what differs
 counted m t (returns v) =
     let w = suc (m .current) in
     let ds = differ (m .shows w) (m .shows v) in
-    record { added = putCount w (length (those comes ds) + t .added w) (t .added); removed = putCount w (length (those goes ds) + t .removed w) (t .removed) }
+    record {
+      added = putCount w (length (those comes ds) + t .added w) (t .added);
+      removed = putCount w (length (those goes ds) + t .removed w) (t .removed);
+    }
 counted m t (prunes v) = t
 
 abbrev pub countedBy : Machine → Tally → Call → Came → Tally
@@ -133,4 +149,5 @@ countedBy m t c (gaveUp n s) = t
 
 abbrev pub tallied : ℕ → Both → Tally → List Call → Tally
 tallied least b t [] = t
-tallied least b t (c ∷ cs) = tallied least (onward b c (callBy least (b .store) c)) (countedBy (b .machine) t c (callBy least (b .store) c)) cs
+tallied least b t (c ∷ cs) =
+    tallied least (onward b c (callBy least (b .store) c)) (countedBy (b .machine) t c (callBy least (b .store) c)) cs

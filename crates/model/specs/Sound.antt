@@ -134,11 +134,13 @@ reachedWell v ns n (p ∷ ps) = same (not (isFree p) && within (p .start) (p .en
 unfoldable pub rule6 : Store → Bool
 rule6 s = all (λ (v : ℕ). reachedWell v (map (λ (x : Seen). x .number) (seen s v)) 5 (drop 5 (s .pages))) (versions s)
 
--- 7. "A page that starts at the open version holds only alive entries that start there." Where rule 3 skips nothing it follows from 1 and 3.
+-- 7. "A page that starts at the open version holds only alive entries that start there." Where rule 3 skips nothing it follows from 1 and
+-- 3.
 unfoldable pub rule7 : Store → Bool
 rule7 s =
     not (s .opened)
-    || pagesPass (λ (p : Page). not (eqb (p .start) (next s)) || all (λ (e : Entry). eqb (e .start) (next s) && eqb (e .end) alive) (p .entries)) s
+    || pagesPass (λ (p : Page). not (eqb (p .start) (next s))
+    || all (λ (e : Entry). eqb (e .start) (next s) && eqb (e .end) alive) (p .entries)) s
 
 -- ---- "the lowest number of a broken rule; each rule is tested on its own, once all lower ones hold"
 

@@ -49,7 +49,8 @@ table =
     -- "P5 after P2, delete 12 to 17: page 7 has 4."
     ∷ history 16 (twentyOne ++ deleteFrom 12 6) (gives 0 ∷ holding 7 4 ∷ keys 7 (count 18 4) ∷ root 8 ∷ [])
     -- "P6 delete 18: page 6 has 14, 7 and 8 are freed, root 6."
-    ∷ history 16 (twentyOne ++ deleteFrom 12 7) (gives 0 ∷ holding 6 14 ∷ keys 6 (count 1 11 ++ count 19 3) ∷ freed 7 ∷ freed 8 ∷ root 6 ∷ slots (0 ∷ 5 ∷ 1 ∷ 6 ∷ []) ∷ [])
+    ∷ history 16 (twentyOne ++ deleteFrom 12 7)
+    (gives 0 ∷ holding 6 14 ∷ keys 6 (count 1 11 ++ count 19 3) ∷ freed 7 ∷ freed 8 ∷ root 6 ∷ slots (0 ∷ 5 ∷ 1 ∷ 6 ∷ []) ∷ [])
     -- "P7 abandon after P6: the fresh bytes."
     ∷ history 16 (twentyOne ++ deleteFrom 12 7 ++ (abandons ∷ [])) (gives 0 ∷ bytesOf (fresh 16) ∷ [])
     -- "P8 commit after P2, open, delete 12 to 18: page 9 holds 14; 6, 7, 8 end at 2; slots 0:5, 1:8, 2:9. P9 key 15 is found at 1,
@@ -58,11 +59,14 @@ table =
     (gives 0 ∷ holding 9 14 ∷ keys 9 (count 1 11 ++ count 19 3) ∷ span 6 1 2 ∷ span 7 1 2 ∷ span 8 1 2 ∷ slots (0 ∷ 5 ∷ 1 ∷ 8 ∷ 2 ∷ 9 ∷ [])
     ∷ looks 15 1 (Value 115) ∷ looks 15 2 Absent ∷ [])
     -- "P10 commit after P1, open, delete 1 to 4, insert 30: 17 live, pages of 9 and 8."
-    ∷ history 16 (reopened twenty ++ deleteFrom 1 4 ++ (insertKey 30 ∷ [])) (gives 0 ∷ live 17 ∷ holding 6 9 ∷ holding 7 8 ∷ root 8 ∷ leads 8 (6 ∷ 7 ∷ []) ∷ [])
+    ∷ history 16 (reopened twenty ++ deleteFrom 1 4 ++ (insertKey 30 ∷ []))
+    (gives 0 ∷ live 17 ∷ holding 6 9 ∷ holding 7 8 ∷ root 8 ∷ leads 8 (6 ∷ 7 ∷ []) ∷ [])
     -- "P11 delete 1 to 5 instead: one page of 16."
     ∷ history 16 (reopened twenty ++ deleteFrom 1 5 ++ (insertKey 30 ∷ [])) (gives 0 ∷ live 16 ∷ holding 6 16 ∷ root 6 ∷ freed 7 ∷ [])
     -- "P12 commit after P1, open, delete 1, insert 1: pages 6 and 7 with 10 each, root 8;"
-    ∷ history 16 (reopened twenty ++ (deletes 1 ∷ insertKey 1 ∷ [])) (gives 0 ∷ holding 6 10 ∷ holding 7 10 ∷ root 8 ∷ leads 8 (6 ∷ 7 ∷ []) ∷ [])
+    ∷ history 16 (reopened twenty ++ (deletes 1 ∷ insertKey 1 ∷ []))
+    (gives 0 ∷ holding 6 10 ∷ holding 7 10 ∷ root 8 ∷ leads 8 (6 ∷ 7 ∷ []) ∷ [])
     -- "abandon gives the bytes before the open."
-    ∷ history 16 (reopened twenty ++ (deletes 1 ∷ insertKey 1 ∷ abandons ∷ [])) (gives 0 ∷ bytesOf (from 4 16 (twenty ++ (commits ∷ [])) .store) ∷ [])
+    ∷ history 16 (reopened twenty ++ (deletes 1 ∷ insertKey 1 ∷ abandons ∷ []))
+    (gives 0 ∷ bytesOf (from 4 16 (twenty ++ (commits ∷ [])) .store) ∷ [])
     ∷ []

@@ -111,7 +111,8 @@ rangeOf s lo hi v = let r = rootAt (s .slots) v in rangeBelow (heightOf (s .page
 -- and the pages that it visits
 abbrev pub rangePath : ℕ → List Page → ℕ → ℕ → ℕ → ℕ → List ℕ
 rangePath zero ps v hi at n = n ∷ []
-rangePath (suc up) ps v hi at n = n ∷ flatMap (λ (r : Pair). rangePath up ps v hi (r .key) (r .value)) (followed at hi (pairsAt v (page ps n)))
+rangePath (suc up) ps v hi at n =
+    n ∷ flatMap (λ (r : Pair). rangePath up ps v hi (r .key) (r .value)) (followed at hi (pairsAt v (page ps n)))
 
 abbrev pub rangeVisits : Store → ℕ → ℕ → ℕ → List ℕ
 rangeVisits s lo hi v = let r = rootAt (s .slots) v in rangePath (heightOf (s .pages) r) (s .pages) v hi lo r

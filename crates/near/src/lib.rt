@@ -129,35 +129,20 @@ pub fn lookup(s: &[u8], l: Limits, key: u32, v: u32) -> Looked
 
 // The walk of a range: all of it is judged before anything is counted or written. Where the judging has come to its end within as many
 // visits as there are pages, counting and writing visit the same pages.
-fn across(
-    s: &[u8],
-    l: Limits,
-    last: u32,
-    size: usize,
-    low: u32,
-    high: u32,
-    v: u32,
-    list: &mut [u32],
-) -> Counted
-    requires { ⌜ Edition l × Known (l .least) (now s) size last × Fronted (l .least) (now s) ⌝ }
-    ensures { λ r. ⌜ withList r (now (list .exit)) ≡ crossed (l .least) (now (s .entry)) low high v (now (list .entry)) ⌝ }
+fn across(s: &[u8], l: Limits, q: Asked, list: &mut [u32]) -> Counted
+    requires { ⌜ Edition l × Known (l .least) (now s) (q .size) (q .last) × Fronted (l .least) (now s) ⌝ }
+    ensures { λ r. ⌜ withList r (now (list .exit))
+        ≡ crossed (l .least) (now (s .entry)) (q .low) (q .high) (q .version) (now (list .entry)) ⌝ }
 {
-    let root = walk::root_among(s, l, v);
-    let level = down::level_at(s, l, size, root);
+    let root = walk::root_among(s, l, q.version);
+    let level = down::level_at(s, l, q.size, root);
     if level == 0 {
         return Counted {
             number: 4,
             count: 0,
         };
     }
-    let q = Asked {
-        low: low,
-        high: high,
-        version: v,
-        last: last,
-        size: size,
-    };
-    let w = within::range_right(s, l, q, root, level, low, size);
+    let w = within::range_right(s, l, q, root, level, q.low, q.size);
     if w.left == 0 {
         return bounded::by_table(s, l, q, root, level, list);
     }
@@ -167,7 +152,8 @@ fn across(
             count: 0,
         };
     }
-    fill(s, l, root, model::wide(level) - 1, low, high, v, list)
+    let up = model::wide(level) - 1;
+    fill(s, l, root, up, q.low, q.high, q.version, list)
 }
 
 // The settings from low to high for any bytes: their number, and key, value, key, value in the caller's list.
@@ -183,5 +169,12 @@ pub fn range(s: &[u8], l: Limits, low: u32, high: u32, v: u32, list: &mut [u32])
         };
     }
     let h = store::header(s, l);
-    across(s, l, h.last(), store::size(s, l), low, high, v, list)
+    let q = Asked {
+        low: low,
+        high: high,
+        version: v,
+        last: h.last(),
+        size: store::size(s, l),
+    };
+    across(s, l, q, list)
 }

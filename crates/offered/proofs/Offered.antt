@@ -103,7 +103,10 @@ use Rattle.auditor.specs.Engine.{Plainly, ofGiven}
 use Rattle.auditor.specs.Linked.{guardedly}
 use Rattle.auditor.proofs.Linked.{linked}
 use Rattle.offered.specs.Promised.{Promised, gave, Conversion, PlainPromised, plainGave}
-use Rattle.offered.specs.Offered.{Fresh, FreshSecond, Check, Open, Insert, Delete, Commit, Abandon, Return, Prune, Lookup, Range, Visits, Difference, Life, Convert, AllOffered, State, PlainOpen, PlainInsert, PlainDelete, PlainCommit, PlainAbandon, PlainReturn, PlainPrune, PlainLookup, PlainRange, PlainDifference, PlainLife}
+use Rattle.offered.specs.Offered.{Fresh, FreshSecond, Check, Open, Insert, Delete, Commit, Abandon, Return, Prune, Lookup, Range}
+use Rattle.offered.specs.Offered.{Visits, Difference, Life, Convert, AllOffered, State, PlainOpen, PlainInsert, PlainDelete}
+use Rattle.offered.specs.Offered.{PlainCommit, PlainAbandon, PlainReturn, PlainPrune, PlainLookup, PlainRange, PlainDifference}
+use Rattle.offered.specs.Offered.{PlainLife}
 use Rattle.offered.proofs.Passing.{by-one, by-two, by-three, by-four}
 
 -- what meets a call's contract has all that is promised of the call
@@ -127,7 +130,8 @@ conversion b t n t′ x = record {
 }
 
 -- and of the plain engine's calls
-plain-promised : (lent : Bool) (c : Asked) (ns ms us : List ℕ) (f : Plainly) (ns′ ms′ : List ℕ) → f ≡ guardedly c ns ms us → f .plain ≡ readPlain ns′ ms′ → Spared lent ms ms′ → Spared lent ns ns′ → LentAgain ns ms ns′ ms′
+plain-promised : (lent : Bool) (c : Asked) (ns ms us : List ℕ) (f : Plainly) (ns′ ms′ : List ℕ) → f ≡ guardedly c ns ms us
+    → f .plain ≡ readPlain ns′ ms′ → Spared lent ms ms′ → Spared lent ns ns′ → LentAgain ns ms ns′ ms′
     → PlainPromised lent c ns ms us f ns′ ms′
 plain-promised lent c ns ms us f ns′ ms′ x l y z w = record {
   called = record { gave = x; left = l; again = w };
@@ -137,13 +141,16 @@ plain-promised lent c ns ms us f ns′ ms′ x l y z w = record {
 }
 
 -- a reading changes neither
-plain-read : (lent : Bool) (c : Asked) (ns ms us : List ℕ) (f : Plainly) → f ≡ guardedly c ns ms us → f .plain ≡ readPlain ns ms → PlainPromised lent c ns ms us f ns ms
+plain-read : (lent : Bool) (c : Asked) (ns ms us : List ℕ) (f : Plainly) → f ≡ guardedly c ns ms us → f .plain ≡ readPlain ns ms
+    → PlainPromised lent c ns ms us f ns ms
 plain-read lent c ns ms us f x l = plain-promised lent c ns ms us f ns ms x l (λ e. refl) (λ e. refl) (λ e. (e, refl))
 
 -- an open has no list: any that is lent beside it
 plain-opened : (ms : List ℕ) (r : ℕ) (ms′ : List ℕ) → OpensGuarded ms r ms′ → Spared (isState ms) ms ms′ → StateAgain ms ms′
     → (ns us : List ℕ) → PlainPromised (isState ms) toOpen ns ms us (plainGave r [] ns ms′ us) ns ms′
-plain-opened ms r ms′ x y z ns us = plain-promised (isState ms) toOpen ns ms us (plainGave r [] ns ms′ us) ns ms′ (ap (ofGiven us) (x ns)) refl y (λ q. refl) (opens-again ms r ms′ x z ns)
+plain-opened ms r ms′ x y z ns us =
+    plain-promised (isState ms) toOpen ns ms us (plainGave r [] ns ms′ us) ns ms′ (ap (ofGiven us) (x ns)) refl y (λ q. refl)
+    (opens-again ms r ms′ x z ns)
 
 -- ---- the parts of an outcome, put together
 
@@ -162,42 +169,70 @@ list-told b x y z = λ i. gave (x i) (y i ∷ []) b (z i)
 all-told : {n m : ℕ} {rs ts : List ℕ} (b ns : List ℕ) → n ≡ m → rs ≡ ts → gave n rs b ns ≡ gave m ts b ns
 all-told b ns x y = ap₂ (λ (i : ℕ) (us : List ℕ). gave i us b ns) x y
 
-plain-two : {n m c k d l : ℕ} (ns ms us : List ℕ) → n ≡ m → c ≡ k → d ≡ l → plainGave n (c ∷ d ∷ []) ns ms us ≡ plainGave m (k ∷ l ∷ []) ns ms us
+plain-two : {n m c k d l : ℕ} (ns ms us : List ℕ) → n ≡ m → c ≡ k → d ≡ l
+    → plainGave n (c ∷ d ∷ []) ns ms us ≡ plainGave m (k ∷ l ∷ []) ns ms us
 plain-two ns ms us x y z = λ i. plainGave (x i) (y i ∷ z i ∷ []) ns ms us
 
-plain-list : {n m c k : ℕ} {us vs : List ℕ} (ns ms : List ℕ) → n ≡ m → c ≡ k → us ≡ vs → plainGave n (c ∷ []) ns ms us ≡ plainGave m (k ∷ []) ns ms vs
+plain-list : {n m c k : ℕ} {us vs : List ℕ} (ns ms : List ℕ) → n ≡ m → c ≡ k → us ≡ vs
+    → plainGave n (c ∷ []) ns ms us ≡ plainGave m (k ∷ []) ns ms vs
 plain-list ns ms x y z = λ i. plainGave (x i) (y i ∷ []) ns ms (z i)
 
 -- ---- each function
 
 pub all-offered : {M : Type 1} → AllOffered M
 all-offered = record {
-  fresh = by-two rcst-fresh.ended rcst-fresh-code.routine Fresh _ _ rcst-fresh-met.met (λ κs a r e x y ns. promised _ _ ns _ (moved ns x y));
-  fresh-second = by-two rcst-fresh-second.ended rcst-fresh-second-code.routine FreshSecond _ _ rcst-fresh-second-met.met (λ κs a r e x y ns. promised _ _ ns _ (moved ns x y));
-  check = by-two rcst-check.ended rcst-check-code.routine Check _ _ rcst-check-met.met (λ κs a r e x y ns. promised _ _ ns _ (one-told _ ns x y));
+  fresh = by-two rcst-fresh.ended rcst-fresh-code.routine Fresh _ _ rcst-fresh-met.met
+      (λ κs a r e x y ns. promised _ _ ns _ (moved ns x y));
+  fresh-second = by-two rcst-fresh-second.ended rcst-fresh-second-code.routine FreshSecond _ _ rcst-fresh-second-met.met
+      (λ κs a r e x y ns. promised _ _ ns _ (moved ns x y));
+  check = by-two rcst-check.ended rcst-check-code.routine Check _ _ rcst-check-met.met
+      (λ κs a r e x y ns. promised _ _ ns _ (one-told _ ns x y));
   opens = by-one rcst-open.ended rcst-open-code.routine Open _ rcst-open-met.met (λ κs a r e x ns. promised _ _ ns _ (ap (ofOutcome ns) x));
-  insert = by-one rcst-insert.ended rcst-insert-code.routine Insert _ rcst-insert-met.met (λ κs a r e x ns. promised _ _ ns _ (ap (ofOutcome ns) x));
-  delete = by-one rcst-delete.ended rcst-delete-code.routine Delete _ rcst-delete-met.met (λ κs a r e x ns. promised _ _ ns _ (ap (ofOutcome ns) x));
-  commit = by-one rcst-commit.ended rcst-commit-code.routine Commit _ rcst-commit-met.met (λ κs a r e x ns. promised _ _ ns _ (ap (ofOutcome ns) x));
-  abandon = by-one rcst-abandon.ended rcst-abandon-code.routine Abandon _ rcst-abandon-met.met (λ κs a r e x ns. promised _ _ ns _ (ap (ofOutcome ns) x));
-  return = by-one rcst-return.ended rcst-return-code.routine Return _ rcst-return-met.met (λ κs a r e x ns. promised _ _ ns _ (ap (ofOutcome ns) x));
-  prune = by-one rcst-prune.ended rcst-prune-code.routine Prune _ rcst-prune-met.met (λ κs a r e x ns. promised _ _ ns _ (ap (ofOutcome ns) x));
-  lookup = by-three rcst-lookup.ended rcst-lookup-code.routine Lookup _ _ _ rcst-lookup-met.met (λ κs a r e x y z ns. promised _ _ ns _ (two-told _ ns x y z));
-  range = by-three rcst-range.ended rcst-range-code.routine Range _ _ _ rcst-range-met.met (λ κs a r e x y z. promised _ _ _ _ (list-told _ x y z));
-  visits = by-three rcst-visits.ended rcst-visits-code.routine Visits _ _ _ rcst-visits-met.met (λ κs a r e x y z. promised _ _ _ _ (list-told _ x y z));
-  difference = by-three rcst-difference.ended rcst-difference-code.routine Difference _ _ _ rcst-difference-met.met (λ κs a r e x y z. promised _ _ _ _ (list-told _ x y z));
+  insert = by-one rcst-insert.ended rcst-insert-code.routine Insert _ rcst-insert-met.met
+      (λ κs a r e x ns. promised _ _ ns _ (ap (ofOutcome ns) x));
+  delete = by-one rcst-delete.ended rcst-delete-code.routine Delete _ rcst-delete-met.met
+      (λ κs a r e x ns. promised _ _ ns _ (ap (ofOutcome ns) x));
+  commit = by-one rcst-commit.ended rcst-commit-code.routine Commit _ rcst-commit-met.met
+      (λ κs a r e x ns. promised _ _ ns _ (ap (ofOutcome ns) x));
+  abandon = by-one rcst-abandon.ended rcst-abandon-code.routine Abandon _ rcst-abandon-met.met
+      (λ κs a r e x ns. promised _ _ ns _ (ap (ofOutcome ns) x));
+  return = by-one rcst-return.ended rcst-return-code.routine Return _ rcst-return-met.met
+      (λ κs a r e x ns. promised _ _ ns _ (ap (ofOutcome ns) x));
+  prune = by-one rcst-prune.ended rcst-prune-code.routine Prune _ rcst-prune-met.met
+      (λ κs a r e x ns. promised _ _ ns _ (ap (ofOutcome ns) x));
+  lookup = by-three rcst-lookup.ended rcst-lookup-code.routine Lookup _ _ _ rcst-lookup-met.met
+      (λ κs a r e x y z ns. promised _ _ ns _ (two-told _ ns x y z));
+  range = by-three rcst-range.ended rcst-range-code.routine Range _ _ _ rcst-range-met.met
+      (λ κs a r e x y z. promised _ _ _ _ (list-told _ x y z));
+  visits = by-three rcst-visits.ended rcst-visits-code.routine Visits _ _ _ rcst-visits-met.met
+      (λ κs a r e x y z. promised _ _ _ _ (list-told _ x y z));
+  difference = by-three rcst-difference.ended rcst-difference-code.routine Difference _ _ _ rcst-difference-met.met
+      (λ κs a r e x y z. promised _ _ _ _ (list-told _ x y z));
   convert = by-one rcst-convert.ended rcst-convert-code.routine Convert _ rcst-convert-met.met (λ κs a r e x. conversion _ _ _ _ x);
-  state = by-two rcst-state.ended rcst-state-code.routine State _ _ rcst-state-met.met (λ κs a r e x y ns. promised _ _ ns _ (all-told _ ns x y));
-  life = by-three rcst-life.ended rcst-life-code.routine Life _ _ _ rcst-life-met.met (λ κs a r e x y z. promised _ _ _ _ (list-told _ x y z));
-  plain-open = by-three rcst-plain-open.ended rcst-plain-open-code.routine PlainOpen _ _ _ rcst-plain-open-met.met (λ κs a r e x y z. plain-opened (now (a .0)) r (now (e .0)) x y z);
-  plain-insert = by-four rcst-plain-insert.ended rcst-plain-insert-code.routine PlainInsert _ _ _ _ rcst-plain-insert-met.met (λ κs a r e x y z w us. plain-promised _ _ _ _ us _ _ _ (ap (ofGiven us) x) refl y z w);
-  plain-delete = by-four rcst-plain-delete.ended rcst-plain-delete-code.routine PlainDelete _ _ _ _ rcst-plain-delete-met.met (λ κs a r e x y z w us. plain-promised _ _ _ _ us _ _ _ (ap (ofGiven us) x) refl y z w);
-  plain-abandon = by-four rcst-plain-abandon.ended rcst-plain-abandon-code.routine PlainAbandon _ _ _ _ rcst-plain-abandon-met.met (λ κs a r e x y z w us. plain-promised _ _ _ _ us _ _ _ (ap (ofGiven us) x) refl y z w);
-  plain-return = by-four rcst-plain-return.ended rcst-plain-return-code.routine PlainReturn _ _ _ _ rcst-plain-return-met.met (λ κs a r e x y z w us. plain-promised _ _ _ _ us _ _ _ (ap (ofGiven us) x) refl y z w);
-  plain-prune = by-four rcst-plain-prune.ended rcst-plain-prune-code.routine PlainPrune _ _ _ _ rcst-plain-prune-met.met (λ κs a r e x y z w us. plain-promised _ _ _ _ us _ _ _ (ap (ofGiven us) x) refl y z w);
-  plain-commit = by-three rcst-plain-commit.ended rcst-plain-commit-code.routine PlainCommit _ _ _ rcst-plain-commit-met.met (λ κs a r e x y z us. plain-promised _ _ _ _ us _ _ _ (ap (ofGiven us) x) refl y (λ q. refl) z);
-  plain-lookup = by-three rcst-plain-lookup.ended rcst-plain-lookup-code.routine PlainLookup _ _ _ rcst-plain-lookup-met.met (λ κs a r e x y z us. plain-read _ _ _ _ us _ (plain-two (now (a .0)) (now (a .1 .0)) us x y z) refl);
-  plain-range = by-three rcst-plain-range.ended rcst-plain-range-code.routine PlainRange _ _ _ rcst-plain-range-met.met (λ κs a r e x y z. plain-read _ _ _ _ _ _ (plain-list (now (a .0)) (now (a .1 .0)) x y z) refl);
-  plain-difference = by-three rcst-plain-difference.ended rcst-plain-difference-code.routine PlainDifference _ _ _ rcst-plain-difference-met.met (λ κs a r e x y z. plain-read _ _ _ _ _ _ (plain-list (now (a .0)) (now (a .1 .0)) x y z) refl);
-  plain-life = by-three rcst-plain-life.ended rcst-plain-life-code.routine PlainLife _ _ _ rcst-plain-life-met.met (λ κs a r e x y z. plain-read _ _ _ _ _ _ (plain-list (now (a .0)) (now (a .1 .0)) x y z) refl);
+  state = by-two rcst-state.ended rcst-state-code.routine State _ _ rcst-state-met.met
+      (λ κs a r e x y ns. promised _ _ ns _ (all-told _ ns x y));
+  life = by-three rcst-life.ended rcst-life-code.routine Life _ _ _ rcst-life-met.met
+      (λ κs a r e x y z. promised _ _ _ _ (list-told _ x y z));
+  plain-open = by-three rcst-plain-open.ended rcst-plain-open-code.routine PlainOpen _ _ _ rcst-plain-open-met.met
+      (λ κs a r e x y z. plain-opened (now (a .0)) r (now (e .0)) x y z);
+  plain-insert = by-four rcst-plain-insert.ended rcst-plain-insert-code.routine PlainInsert _ _ _ _ rcst-plain-insert-met.met
+      (λ κs a r e x y z w us. plain-promised _ _ _ _ us _ _ _ (ap (ofGiven us) x) refl y z w);
+  plain-delete = by-four rcst-plain-delete.ended rcst-plain-delete-code.routine PlainDelete _ _ _ _ rcst-plain-delete-met.met
+      (λ κs a r e x y z w us. plain-promised _ _ _ _ us _ _ _ (ap (ofGiven us) x) refl y z w);
+  plain-abandon = by-four rcst-plain-abandon.ended rcst-plain-abandon-code.routine PlainAbandon _ _ _ _ rcst-plain-abandon-met.met
+      (λ κs a r e x y z w us. plain-promised _ _ _ _ us _ _ _ (ap (ofGiven us) x) refl y z w);
+  plain-return = by-four rcst-plain-return.ended rcst-plain-return-code.routine PlainReturn _ _ _ _ rcst-plain-return-met.met
+      (λ κs a r e x y z w us. plain-promised _ _ _ _ us _ _ _ (ap (ofGiven us) x) refl y z w);
+  plain-prune = by-four rcst-plain-prune.ended rcst-plain-prune-code.routine PlainPrune _ _ _ _ rcst-plain-prune-met.met
+      (λ κs a r e x y z w us. plain-promised _ _ _ _ us _ _ _ (ap (ofGiven us) x) refl y z w);
+  plain-commit = by-three rcst-plain-commit.ended rcst-plain-commit-code.routine PlainCommit _ _ _ rcst-plain-commit-met.met
+      (λ κs a r e x y z us. plain-promised _ _ _ _ us _ _ _ (ap (ofGiven us) x) refl y (λ q. refl) z);
+  plain-lookup = by-three rcst-plain-lookup.ended rcst-plain-lookup-code.routine PlainLookup _ _ _ rcst-plain-lookup-met.met
+      (λ κs a r e x y z us. plain-read _ _ _ _ us _ (plain-two (now (a .0)) (now (a .1 .0)) us x y z) refl);
+  plain-range = by-three rcst-plain-range.ended rcst-plain-range-code.routine PlainRange _ _ _ rcst-plain-range-met.met
+      (λ κs a r e x y z. plain-read _ _ _ _ _ _ (plain-list (now (a .0)) (now (a .1 .0)) x y z) refl);
+  plain-difference = by-three rcst-plain-difference.ended rcst-plain-difference-code.routine PlainDifference _ _ _
+      rcst-plain-difference-met.met (λ κs a r e x y z. plain-read _ _ _ _ _ _ (plain-list (now (a .0)) (now (a .1 .0)) x y z) refl);
+  plain-life = by-three rcst-plain-life.ended rcst-plain-life-code.routine PlainLife _ _ _ rcst-plain-life-met.met
+      (λ κs a r e x y z. plain-read _ _ _ _ _ _ (plain-list (now (a .0)) (now (a .1 .0)) x y z) refl);
 }

@@ -4,7 +4,8 @@
 use Prim.Native.Nat.{ℕ}
 use mathlib.Core.List.{List, [], _∷_}
 use denote.Ref.{now}
-use Rattle.model.specs.Ended.{toFresh, toFreshSecond, toCheck, toOpen, toCommit, toAbandon, toInsert, toDelete, toReturn, toPrune, toLookup, toRange, toVisits, toDifference, toLife, toState}
+use Rattle.model.specs.Ended.{toFresh, toFreshSecond, toCheck, toOpen, toCommit, toAbandon, toInsert, toDelete, toReturn, toPrune}
+use Rattle.model.specs.Ended.{toLookup, toRange, toVisits, toDifference, toLife, toState}
 use Rattle.host.proofs.rcst_fresh as rcst-fresh
 use Rattle.host.proofs.rcst_fresh.Symbol as rcst-fresh-code
 use Rattle.host.proofs.rcst_fresh_second as rcst-fresh-second
@@ -96,19 +97,28 @@ abbrev pub Prune : Says rcst-prune.ended
 Prune κs a r e = (ns : List ℕ) → Promised (toPrune (a .1 .0)) (now (a .0)) ns (gave r [] (now (e .0)) ns)
 
 abbrev pub Lookup : Says rcst-lookup.ended
-Lookup κs a r e = (ns : List ℕ) → Promised (toLookup (a .1 .0) (a .1 .1 .0)) (now (a .0)) ns (gave r (now (e .1 .1 .1 .0) ∷ now (e .1 .1 .1 .1 .0) ∷ []) (now (a .0)) ns)
+Lookup κs a r e =
+    (ns : List ℕ) → Promised (toLookup (a .1 .0) (a .1 .1 .0)) (now (a .0)) ns
+    (gave r (now (e .1 .1 .1 .0) ∷ now (e .1 .1 .1 .1 .0) ∷ []) (now (a .0)) ns)
 
 abbrev pub Range : Says rcst-range.ended
-Range κs a r e = Promised (toRange (a .1 .0) (a .1 .1 .0) (a .1 .1 .1 .0)) (now (a .0)) (now (a .1 .1 .1 .1 .0)) (gave r (now (e .1 .1 .1 .1 .1 .0) ∷ []) (now (a .0)) (now (e .1 .1 .1 .1 .0)))
+Range κs a r e =
+    Promised (toRange (a .1 .0) (a .1 .1 .0) (a .1 .1 .1 .0)) (now (a .0)) (now (a .1 .1 .1 .1 .0))
+    (gave r (now (e .1 .1 .1 .1 .1 .0) ∷ []) (now (a .0)) (now (e .1 .1 .1 .1 .0)))
 
 abbrev pub Visits : Says rcst-visits.ended
-Visits κs a r e = Promised (toVisits (a .1 .0) (a .1 .1 .0)) (now (a .0)) (now (a .1 .1 .1 .0)) (gave r (now (e .1 .1 .1 .1 .0) ∷ []) (now (a .0)) (now (e .1 .1 .1 .0)))
+Visits κs a r e =
+    Promised (toVisits (a .1 .0) (a .1 .1 .0)) (now (a .0)) (now (a .1 .1 .1 .0))
+    (gave r (now (e .1 .1 .1 .1 .0) ∷ []) (now (a .0)) (now (e .1 .1 .1 .0)))
 
 abbrev pub Difference : Says rcst-difference.ended
-Difference κs a r e = Promised (toDifference (a .1 .0) (a .1 .1 .0)) (now (a .0)) (now (a .1 .1 .1 .0)) (gave r (now (e .1 .1 .1 .1 .0) ∷ []) (now (a .0)) (now (e .1 .1 .1 .0)))
+Difference κs a r e =
+    Promised (toDifference (a .1 .0) (a .1 .1 .0)) (now (a .0)) (now (a .1 .1 .1 .0))
+    (gave r (now (e .1 .1 .1 .1 .0) ∷ []) (now (a .0)) (now (e .1 .1 .1 .0)))
 
 abbrev pub Life : Says rcst-life.ended
-Life κs a r e = Promised (toLife (a .1 .0)) (now (a .0)) (now (a .1 .1 .0)) (gave r (now (e .1 .1 .1 .0) ∷ []) (now (a .0)) (now (e .1 .1 .0)))
+Life κs a r e =
+    Promised (toLife (a .1 .0)) (now (a .0)) (now (a .1 .1 .0)) (gave r (now (e .1 .1 .1 .0) ∷ []) (now (a .0)) (now (e .1 .1 .0)))
 
 abbrev pub State : Says rcst-state.ended
 State κs a r e = (ns : List ℕ) → Promised toState (now (a .0)) ns (gave r (now (e .1 .0)) (now (a .0)) ns)
@@ -119,37 +129,61 @@ Convert κs a r e = Conversion (now (a .0)) (now (a .1 .0)) r (now (e .1 .0))
 -- ---- the plain engine (2026-10): items and state are lent, where an open has no list any will do
 
 abbrev pub PlainOpen : Says rcst-plain-open.ended
-PlainOpen κs a r e = (ns us : List ℕ) → PlainPromised (isState (now (a .0))) toOpen ns (now (a .0)) us (plainGave r [] ns (now (e .0)) us) ns (now (e .0))
+PlainOpen κs a r e =
+    (ns us : List ℕ) → PlainPromised (isState (now (a .0))) toOpen ns (now (a .0)) us (plainGave r [] ns (now (e .0)) us) ns (now (e .0))
 
 abbrev pub PlainInsert : Says rcst-plain-insert.ended
-PlainInsert κs a r e = (us : List ℕ) → PlainPromised (isLent (now (a .0)) (now (a .1 .0))) (toInsert (a .1 .1 .0) (a .1 .1 .1 .0)) (now (a .0)) (now (a .1 .0)) us (plainGave r [] (now (e .0)) (now (e .1 .0)) us) (now (e .0)) (now (e .1 .0))
+PlainInsert κs a r e =
+    (us : List ℕ) → PlainPromised (isLent (now (a .0)) (now (a .1 .0))) (toInsert (a .1 .1 .0) (a .1 .1 .1 .0)) (now (a .0))
+    (now (a .1 .0)) us (plainGave r [] (now (e .0)) (now (e .1 .0)) us) (now (e .0)) (now (e .1 .0))
 
 abbrev pub PlainDelete : Says rcst-plain-delete.ended
-PlainDelete κs a r e = (us : List ℕ) → PlainPromised (isLent (now (a .0)) (now (a .1 .0))) (toDelete (a .1 .1 .0)) (now (a .0)) (now (a .1 .0)) us (plainGave r [] (now (e .0)) (now (e .1 .0)) us) (now (e .0)) (now (e .1 .0))
+PlainDelete κs a r e =
+    (us : List ℕ) → PlainPromised (isLent (now (a .0)) (now (a .1 .0))) (toDelete (a .1 .1 .0)) (now (a .0)) (now (a .1 .0)) us
+    (plainGave r [] (now (e .0)) (now (e .1 .0)) us) (now (e .0)) (now (e .1 .0))
 
 abbrev pub PlainCommit : Says rcst-plain-commit.ended
-PlainCommit κs a r e = (us : List ℕ) → PlainPromised (isLent (now (a .0)) (now (a .1 .0))) toCommit (now (a .0)) (now (a .1 .0)) us (plainGave r [] (now (a .0)) (now (e .1 .0)) us) (now (a .0)) (now (e .1 .0))
+PlainCommit κs a r e =
+    (us : List ℕ) → PlainPromised (isLent (now (a .0)) (now (a .1 .0))) toCommit (now (a .0)) (now (a .1 .0)) us
+    (plainGave r [] (now (a .0)) (now (e .1 .0)) us) (now (a .0)) (now (e .1 .0))
 
 abbrev pub PlainAbandon : Says rcst-plain-abandon.ended
-PlainAbandon κs a r e = (us : List ℕ) → PlainPromised (isLent (now (a .0)) (now (a .1 .0))) toAbandon (now (a .0)) (now (a .1 .0)) us (plainGave r [] (now (e .0)) (now (e .1 .0)) us) (now (e .0)) (now (e .1 .0))
+PlainAbandon κs a r e =
+    (us : List ℕ) → PlainPromised (isLent (now (a .0)) (now (a .1 .0))) toAbandon (now (a .0)) (now (a .1 .0)) us
+    (plainGave r [] (now (e .0)) (now (e .1 .0)) us) (now (e .0)) (now (e .1 .0))
 
 abbrev pub PlainReturn : Says rcst-plain-return.ended
-PlainReturn κs a r e = (us : List ℕ) → PlainPromised (isLent (now (a .0)) (now (a .1 .0))) (toReturn (a .1 .1 .0)) (now (a .0)) (now (a .1 .0)) us (plainGave r [] (now (e .0)) (now (e .1 .0)) us) (now (e .0)) (now (e .1 .0))
+PlainReturn κs a r e =
+    (us : List ℕ) → PlainPromised (isLent (now (a .0)) (now (a .1 .0))) (toReturn (a .1 .1 .0)) (now (a .0)) (now (a .1 .0)) us
+    (plainGave r [] (now (e .0)) (now (e .1 .0)) us) (now (e .0)) (now (e .1 .0))
 
 abbrev pub PlainPrune : Says rcst-plain-prune.ended
-PlainPrune κs a r e = (us : List ℕ) → PlainPromised (isLent (now (a .0)) (now (a .1 .0))) (toPrune (a .1 .1 .0)) (now (a .0)) (now (a .1 .0)) us (plainGave r [] (now (e .0)) (now (e .1 .0)) us) (now (e .0)) (now (e .1 .0))
+PlainPrune κs a r e =
+    (us : List ℕ) → PlainPromised (isLent (now (a .0)) (now (a .1 .0))) (toPrune (a .1 .1 .0)) (now (a .0)) (now (a .1 .0)) us
+    (plainGave r [] (now (e .0)) (now (e .1 .0)) us) (now (e .0)) (now (e .1 .0))
 
 abbrev pub PlainLookup : Says rcst-plain-lookup.ended
-PlainLookup κs a r e = (us : List ℕ) → PlainPromised (isLent (now (a .0)) (now (a .1 .0))) (toLookup (a .1 .1 .0) (a .1 .1 .1 .0)) (now (a .0)) (now (a .1 .0)) us (plainGave r (now (e .1 .1 .1 .1 .0) ∷ now (e .1 .1 .1 .1 .1 .0) ∷ []) (now (a .0)) (now (a .1 .0)) us) (now (a .0)) (now (a .1 .0))
+PlainLookup κs a r e =
+    (us : List ℕ) → PlainPromised (isLent (now (a .0)) (now (a .1 .0))) (toLookup (a .1 .1 .0) (a .1 .1 .1 .0)) (now (a .0))
+    (now (a .1 .0)) us (plainGave r (now (e .1 .1 .1 .1 .0) ∷ now (e .1 .1 .1 .1 .1 .0) ∷ []) (now (a .0)) (now (a .1 .0)) us) (now (a .0))
+    (now (a .1 .0))
 
 abbrev pub PlainRange : Says rcst-plain-range.ended
-PlainRange κs a r e = PlainPromised (isLent (now (a .0)) (now (a .1 .0))) (toRange (a .1 .1 .0) (a .1 .1 .1 .0) (a .1 .1 .1 .1 .0)) (now (a .0)) (now (a .1 .0)) (now (a .1 .1 .1 .1 .1 .0)) (plainGave r (now (e .1 .1 .1 .1 .1 .1 .0) ∷ []) (now (a .0)) (now (a .1 .0)) (now (e .1 .1 .1 .1 .1 .0))) (now (a .0)) (now (a .1 .0))
+PlainRange κs a r e =
+    PlainPromised (isLent (now (a .0)) (now (a .1 .0))) (toRange (a .1 .1 .0) (a .1 .1 .1 .0) (a .1 .1 .1 .1 .0)) (now (a .0))
+    (now (a .1 .0)) (now (a .1 .1 .1 .1 .1 .0))
+    (plainGave r (now (e .1 .1 .1 .1 .1 .1 .0) ∷ []) (now (a .0)) (now (a .1 .0)) (now (e .1 .1 .1 .1 .1 .0))) (now (a .0)) (now (a .1 .0))
 
 abbrev pub PlainDifference : Says rcst-plain-difference.ended
-PlainDifference κs a r e = PlainPromised (isLent (now (a .0)) (now (a .1 .0))) (toDifference (a .1 .1 .0) (a .1 .1 .1 .0)) (now (a .0)) (now (a .1 .0)) (now (a .1 .1 .1 .1 .0)) (plainGave r (now (e .1 .1 .1 .1 .1 .0) ∷ []) (now (a .0)) (now (a .1 .0)) (now (e .1 .1 .1 .1 .0))) (now (a .0)) (now (a .1 .0))
+PlainDifference κs a r e =
+    PlainPromised (isLent (now (a .0)) (now (a .1 .0))) (toDifference (a .1 .1 .0) (a .1 .1 .1 .0)) (now (a .0)) (now (a .1 .0))
+    (now (a .1 .1 .1 .1 .0)) (plainGave r (now (e .1 .1 .1 .1 .1 .0) ∷ []) (now (a .0)) (now (a .1 .0)) (now (e .1 .1 .1 .1 .0)))
+    (now (a .0)) (now (a .1 .0))
 
 abbrev pub PlainLife : Says rcst-plain-life.ended
-PlainLife κs a r e = PlainPromised (isLent (now (a .0)) (now (a .1 .0))) (toLife (a .1 .1 .0)) (now (a .0)) (now (a .1 .0)) (now (a .1 .1 .1 .0)) (plainGave r (now (e .1 .1 .1 .1 .0) ∷ []) (now (a .0)) (now (a .1 .0)) (now (e .1 .1 .1 .0))) (now (a .0)) (now (a .1 .0))
+PlainLife κs a r e =
+    PlainPromised (isLent (now (a .0)) (now (a .1 .0))) (toLife (a .1 .1 .0)) (now (a .0)) (now (a .1 .0)) (now (a .1 .1 .1 .0))
+    (plainGave r (now (e .1 .1 .1 .1 .0) ∷ []) (now (a .0)) (now (a .1 .0)) (now (e .1 .1 .1 .0))) (now (a .0)) (now (a .1 .0))
 
 -- what all of them do
 pub record AllOffered (M : Type 1) : Type 2 where

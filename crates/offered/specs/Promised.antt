@@ -34,16 +34,17 @@ pub record Promised (c : Asked) (b ns : List ℕ) (e : Ended) : Type 0 where
 abbrev pub gave : ℕ → List ℕ → List ℕ → List ℕ → Ended
 gave n rs q ms = record { number = n; results = rs; store = q; list = ms }
 
--- What is promised of the converter: of the source b and the target t that were lent, the number n, and the target after it. The source is only
--- read.
+-- What is promised of the converter: of the source b and the target t that were lent, the number n, and the target after it. The source is
+-- only read.
 pub record Conversion (b t : List ℕ) (n : ℕ) (t′ : List ℕ) : Type 0 where
   pub meets : leaving n t′ ≡ convertLent b t
   pub done : n ≡ 0 → Converted b t′
   pub lacking : Lacks n → Emptied t t′
   pub untouched : n ≢ 0 → (Lacks n → ⊥) → t′ ≡ t
 
--- What is promised of one call of the plain engine (2026-10): of the items ns, the state ms and the caller's list us that were lent, of what the
--- call gave, f, and of the items ns′ and the state ms′ that it left. `lent` is the test whose failing gives 4: an open has no list to test.
+-- What is promised of one call of the plain engine (2026-10): of the items ns, the state ms and the caller's list us that were lent, of
+-- what the call gave, f, and of the items ns′ and the state ms′ that it left. `lent` is the test whose failing gives 4: an open has no list
+-- to test.
 pub record PlainPromised (lent : Bool) (c : Asked) (ns ms us : List ℕ) (f : Plainly) (ns′ ms′ : List ℕ) : Type 0 where
   -- by its contract, and what is left of a plain store can be lent to the next call; so `linked-run` of the auditor speaks of it
   pub called : Called c ns ms us f ns′ ms′

@@ -28,7 +28,8 @@ untaken = 0
 unfoldable pub parentChange : ℕ → Group → List ℕ → Change
 parentChange least g ns = exchange (g .routers) (routersTo (g .routers) (parts least (g .pairs)) (getD ns 0 untaken) (getD ns 1 untaken))
 
--- What comes of a page that is not the root: it takes its change in place; its parent has a change to take, and so many pages are free; there is no page.
+-- What comes of a page that is not the root: it takes its change in place; its parent has a change to take, and so many pages are free;
+-- there is no page.
 pub data Planned : Type 0 where
   settles : Planned
   rises : Change → ℕ → Planned

@@ -38,13 +38,14 @@ sum-less g h (k ∷ ks) is = omega (arith, is k, sum-less g h ks is)
 -- ---- one key after the other: what each step does to its own key
 
 module _ (w v : ℕ) where
-  record Step (now : Option ℕ → Option ℕ → Option ℕ) (cost : Option ℕ → Option ℕ → ℕ) (f : ℕ → List Entry → List Entry) : Type 0 where
+  record KeyStep (now : Option ℕ → Option ℕ → Option ℕ) (cost : Option ℕ → Option ℕ → ℕ) (f : ℕ → List Entry → List Entry) : Type 0 where
     pub older : (k j u : ℕ) → u < w → (es : List Entry) → valueAt j u (f k es) ≡ valueAt j u es
     pub other : (k j : ℕ) → (k ≡ j → ⊥) → (es : List Entry) → valueAt j w (f k es) ≡ valueAt j w es
     pub own : (k : ℕ) (es : List Entry) → valueAt k w (f k es) ≡ now (valueAt k w es) (valueAt k v es)
     pub few : (k : ℕ) (es : List Entry) → length (f k es) ≤ length es + cost (valueAt k w es) (valueAt k v es)
 
-  module _ (low : v < w) {now : Option ℕ → Option ℕ → Option ℕ} {cost : Option ℕ → Option ℕ → ℕ} {f : ℕ → List Entry → List Entry} (s : Step now cost f) where
+  module _ (low : v < w) {now : Option ℕ → Option ℕ → Option ℕ} {cost : Option ℕ → Option ℕ → ℕ} {f : ℕ → List Entry → List Entry}
+      (s : KeyStep now cost f) where
     turn-older : (j u : ℕ) → u < w → (ks : List ℕ) (es : List Entry) → valueAt j u (inTurn f ks es) ≡ valueAt j u es
     turn-older j u h [] es = refl
     turn-older j u h (k ∷ ks) es = turn-older j u h ks (f k es) ∙ s .older k j u h es
@@ -53,11 +54,14 @@ module _ (w v : ℕ) where
     turn-below zero a j h es = refl
     turn-below (suc n) a j h es = turn-below n (suc a) j (omega arith) (f a es) ∙ s .other a j (λ (z : a ≡ j). omega arith) es
 
-    turn-inside : (n a k : ℕ) → a ≤ k → k < a + n → (es : List Entry) → valueAt k w (inTurn f (count a n) es) ≡ now (valueAt k w es) (valueAt k v es)
+    turn-inside : (n a k : ℕ) → a ≤ k → k < a + n → (es : List Entry)
+        → valueAt k w (inTurn f (count a n) es) ≡ now (valueAt k w es) (valueAt k v es)
     turn-inside zero a k h i es = absurd (omega arith)
     turn-inside (suc n) a k h i es = at (eqb a k) refl (turn-inside n (suc a) k)
       where
-        at : (b : Bool) → eqb a k ≡ b → (suc a ≤ k → k < suc a + n → (fs : List Entry) → valueAt k w (inTurn f (count (suc a) n) fs) ≡ now (valueAt k w fs) (valueAt k v fs))
+        at : (b : Bool) → eqb a k ≡ b
+            → (suc a ≤ k → k < suc a + n → (fs : List Entry)
+            → valueAt k w (inTurn f (count (suc a) n) fs) ≡ now (valueAt k w fs) (valueAt k v fs))
             → valueAt k w (inTurn f (count (suc a) n) (f a es)) ≡ now (valueAt k w es) (valueAt k v es)
         at true e ih =
             let same : a ≡ k = eqb-true a k e in
@@ -66,12 +70,14 @@ module _ (w v : ℕ) where
             let n : a ≡ k → ⊥ = eqb-false a k e in
             ih (omega arith) (omega arith) (f a es) ∙ ap₂ now (s .other a k n es) (s .older a k v low es)
 
-    turn-few : (n a : ℕ) (es : List Entry) → length (inTurn f (count a n) es) ≤ length es + sum (λ (k : ℕ). cost (valueAt k w es) (valueAt k v es)) (count a n)
+    turn-few : (n a : ℕ) (es : List Entry) → length (inTurn f (count a n) es) ≤ length es + sum
+        (λ (k : ℕ). cost (valueAt k w es) (valueAt k v es)) (count a n)
     turn-few zero a es = omega arith
     turn-few (suc n) a es =
         let ih = turn-few n (suc a) (f a es) in
         let one = s .few a es in
-        let rest = sum-same (λ (k : ℕ). cost (valueAt k w (f a es)) (valueAt k v (f a es))) (λ (k : ℕ). cost (valueAt k w es) (valueAt k v es)) n (suc a)
+        let rest = sum-same (λ (k : ℕ). cost (valueAt k w (f a es)) (valueAt k v (f a es)))
+        (λ (k : ℕ). cost (valueAt k w es) (valueAt k v es)) n (suc a)
         (λ k h. ap₂ cost (s .other a k (λ (z : a ≡ k). omega arith) es) (s .older a k v low es)) in
         omega (arith, ih, one, rest)
 
@@ -83,7 +89,7 @@ kept o a = pick (sameValue o a) o none
 abbrev nothing : Option ℕ → Option ℕ → ℕ
 nothing o a = 0
 
-ending : (w v : ℕ) → v < w → Step w v kept nothing (endOther w v)
+ending : (w v : ℕ) → v < w → KeyStep w v kept nothing (endOther w v)
 ending w v low = record {
   older = λ k j u h es. older k j u h es (sameValue (valueAt k w es) (valueAt k v es));
   other = λ k j n es. other k j n es (sameValue (valueAt k w es) (valueAt k v es));
@@ -114,7 +120,7 @@ wanting none none = 0
 wanting none (some x) = 1
 wanting (some y) a = 0
 
-setting-missing : (w v : ℕ) → v < w → w < alive → Step w v orElse wanting (setMissing w v)
+setting-missing : (w v : ℕ) → v < w → w < alive → KeyStep w v orElse wanting (setMissing w v)
 setting-missing w v low high = record {
   older = λ k j u h es. older k j u h es (valueAt k w es) (valueAt k v es);
   other = λ k j n es. other k j n es (valueAt k w es) (valueAt k v es);
@@ -160,7 +166,8 @@ wanting-comes k none (some x) = omega arith
 wanting-comes k (some y) none = omega arith
 wanting-comes k (some y) (some x) = at (eqb y x)
   where
-    at : (b : Bool) → wanting (pick b (some y) none) (some x) ≤ length (those comes (pick b [] (record { key = k; kind = 2; old = y; new = x } ∷ [])))
+    at : (b : Bool) → wanting (pick b (some y) none) (some x) ≤ length
+        (those comes (pick b [] (record { key = k; kind = 2; old = y; new = x } ∷ [])))
     at true = omega arith
     at false = omega arith
 
@@ -168,7 +175,8 @@ pub those-append : (f : Delta → Bool) (xs ys : List Delta) → length (those f
 those-append f [] ys = omega arith
 those-append f (x ∷ xs) ys = at (f x) (those-append f xs ys)
   where
-    at : (b : Bool) → length (those f (xs ++ ys)) ≡ length (those f xs) + length (those f ys) → length (keep b x (those f (xs ++ ys))) ≡ length (keep b x (those f xs)) + length (those f ys)
+    at : (b : Bool) → length (those f (xs ++ ys)) ≡ length (those f xs) + length (those f ys)
+        → length (keep b x (those f (xs ++ ys))) ≡ length (keep b x (those f xs)) + length (those f ys)
     at true ih = omega (arith, ih)
     at false ih = ih
 
@@ -181,13 +189,16 @@ module _ (w v : ℕ) (low : v < w) (high : w < alive) (es : List Entry) where
   cleared = inTurn (endOther w v) (count 0 keys) es
 
   pub back-older : (k u : ℕ) → u < w → valueAt k u (backTo w v es) ≡ valueAt k u es
-  back-older k u h = turn-older w v low (setting-missing w v low high) k u h (count 0 keys) cleared ∙ turn-older w v low (ending w v low) k u h (count 0 keys) es
+  back-older k u h =
+      turn-older w v low (setting-missing w v low high) k u h (count 0 keys) cleared
+      ∙ turn-older w v low (ending w v low) k u h (count 0 keys) es
 
   pub back-now : (k : ℕ) → k < keyLimit → valueAt k w (backTo w v es) ≡ valueAt k v es
   back-now k h =
       let in-all : k < 0 + keys = omega (arith, keys-limit) in
       turn-inside w v low (setting-missing w v low high) keys 0 k (omega arith) in-all cleared
-      ∙ ap₂ orElse (turn-inside w v low (ending w v low) keys 0 k (omega arith) in-all es) (turn-older w v low (ending w v low) k v low (count 0 keys) es)
+      ∙ ap₂ orElse (turn-inside w v low (ending w v low) keys 0 k (omega arith) in-all es)
+      (turn-older w v low (ending w v low) k v low (count 0 keys) es)
       ∙ or-kept (valueAt k w es) (valueAt k v es)
 
   pub back-few : length (backTo w v es) ≤ length es + length (those comes (differs w v es))
@@ -204,8 +215,10 @@ module _ (w v : ℕ) (low : v < w) (high : w < alive) (es : List Entry) where
       no-sum (k ∷ ks) = omega (arith, no-sum ks)
 
       few-wanted : (n a : ℕ) → ((k : ℕ) → k < a + n → k < 0 + keys)
-          → sum (λ (k : ℕ). wanting (valueAt k w cleared) (valueAt k v cleared)) (count a n) ≤ sum (λ (k : ℕ). length (those comes (saysOf k (valueAt k w es) (valueAt k v es)))) (count a n)
+          → sum (λ (k : ℕ). wanting (valueAt k w cleared) (valueAt k v cleared)) (count a n) ≤ sum
+          (λ (k : ℕ). length (those comes (saysOf k (valueAt k w es) (valueAt k v es)))) (count a n)
       few-wanted zero a h = omega arith
       few-wanted (suc n) a h =
-          let e = ap₂ wanting (turn-inside w v low (ending w v low) keys 0 a (omega arith) (h a (omega arith)) es) (turn-older w v low (ending w v low) a v low (count 0 keys) es) in
+          let e = ap₂ wanting (turn-inside w v low (ending w v low) keys 0 a (omega arith) (h a (omega arith)) es)
+          (turn-older w v low (ending w v low) a v low (count 0 keys) es) in
           omega (arith, e, wanting-comes a (valueAt a w es) (valueAt a v es), few-wanted n (suc a) (λ k i. h k (omega arith)))

@@ -13,14 +13,16 @@ use Rattle.model.specs.Basic.{pick, those, count, isEmpty}
 use Rattle.model.specs.declared.Entry.{Entry}
 use Rattle.model.specs.declared.Delta.{Delta}
 use Rattle.model.specs.Entry.{alive, born, pair}
-use Rattle.model.specs.Layout.{bit}
 use Rattle.model.specs.Walk.{keyLimit}
 use Rattle.model.specs.Calls.{isSome, rule, firstOf, beyond, benchLimit, insertTests, deleteTests, pruneTests, restoredEntries}
 use Rattle.model.specs.Return.{comes, returnTests}
+use Rattle.model.proofs.lists.Lists.{both-true}
+use Rattle.model.proofs.lists.Bools.{bit-back}
 use Rattle.plain.specs.declared.State.{State}
 use Rattle.plain.specs.declared.Left.{Left}
 use Rattle.plain.specs.declared.items.Found.{Found}
-use Rattle.plain.specs.Plain.{Plain, Given, next, keys, valueAt, differs, unless, standing, holding, setKey, endKey, backTo, pruned, begin, insert, delete, commit, abandon, return, prune}
+use Rattle.plain.specs.Plain.{Plain, Given, next, keys, valueAt, differs, unless, standing, holding, setKey, endKey, backTo, pruned}
+use Rattle.plain.specs.Plain.{begin, insert, delete, commit, abandon, return, prune}
 use Rattle.plain.specs.Items.{ItemsHeld, foundOf, plainOf}
 use Rattle.plain.proofs.laws.Laid.{from-length}
 use Rattle.plain.specs.Sweep.{fate, outliving}
@@ -30,7 +32,8 @@ use Rattle.plain.specs.Scan.{sameFound}
 use Rattle.plain.proofs.laws.Scan.{told, saying}
 use Rattle.plain.specs.Tell.{deltaBy}
 use Rattle.plain.proofs.laws.Tell.{saying-step}
-use Rattle.plain.specs.Guard.{stateOf, stateNumbers, areVersions, isEdition, isState, longest, isLent, readPlain, leftLent, refusing, guarded, lacks, fitted, ownInserts, comesBy}
+use Rattle.plain.specs.Guard.{stateOf, stateNumbers, areVersions, isEdition, isState, longest, isLent, readPlain, leftLent, refusing}
+use Rattle.plain.specs.Guard.{guarded, lacks, fitted, ownInserts, comesBy}
 use Rattle.plain.proofs.Backs.{those-append, back-few}
 
 -- ---- the keys that come
@@ -38,7 +41,10 @@ use Rattle.plain.proofs.Backs.{those-append, back-few}
 delta-comes : (k : ℕ) (a b : Found) → length (those comes (deltaBy k a b)) ≡ comesBy a b
 delta-comes k a b = at (a .is) (b .is) (eqb (a .value) (b .value))
   where
-    at : (x y q : Bool) → length (those comes (pick (pick x (pick y q false) (not y)) [] (record { key = k; kind = pick x (pick y 2 1) 0; old = a .value; new = b .value } ∷ []))) ≡ pick (pick x (pick y q false) (not y)) 0 (pick y 1 0)
+    at : (x y q : Bool)
+        → length (those comes
+        (pick (pick x (pick y q false) (not y)) [] (record { key = k; kind = pick x (pick y 2 1) 0; old = a .value; new = b .value } ∷ [])))
+        ≡ pick (pick x (pick y q false) (not y)) 0 (pick y 1 0)
     at true true true = refl
     at true true false = refl
     at true false q = refl
@@ -101,22 +107,18 @@ lent-by ns ms e h =
 pub lent-none : (ns ms : List ℕ) → isState ms ≡ false → isLent ns ms ≡ false
 lent-none ns ms e = ap (λ (b : Bool). b && (leb (length ns) longest && leb (4 * getD ms 2 0) (length ns))) e
 
-pub both : (b c : Bool) → (b && c) ≡ true → (b ≡ true) × (c ≡ true)
-both true c e = (refl, e)
-both false c e = absurd (let z : _≡_ {A = ℕ} 0 1 = cc in omega arith)
-
 module _ (ns ms : List ℕ) (e : isLent ns ms ≡ true) where
   pub lent-fits : (length ns ≤ longest) × (4 * getD ms 2 0 ≤ length ns)
   lent-fits =
-      let f = both (isState ms) (leb (length ns) longest && leb (4 * getD ms 2 0) (length ns)) e in
-      let g = both (leb (length ns) longest) (leb (4 * getD ms 2 0) (length ns)) (f .1) in
+      let f = both-true (isState ms) (leb (length ns) longest && leb (4 * getD ms 2 0) (length ns)) e in
+      let g = both-true (leb (length ns) longest) (leb (4 * getD ms 2 0) (length ns)) (f .1) in
       (leb-true (length ns) longest (g .0), leb-true (4 * getD ms 2 0) (length ns) (g .1))
 
   pub lent-version : getD ms 0 0 + getD ms 1 0 ≤ 1048574
   lent-version =
-      let f = both (isState ms) (leb (length ns) longest && leb (4 * getD ms 2 0) (length ns)) e in
-      let g = both (versions ms) (old-edition ms (leb (getD ms 3 0) (getD ms 0 0))) (f .0) in
-      leb-true (getD ms 0 0 + getD ms 1 0) 1048574 (both (leb (getD ms 1 0) 1) (leb (getD ms 0 0 + getD ms 1 0) 1048574) (g .0) .1)
+      let f = both-true (isState ms) (leb (length ns) longest && leb (4 * getD ms 2 0) (length ns)) e in
+      let g = both-true (versions ms) (old-edition ms (leb (getD ms 3 0) (getD ms 0 0))) (f .0) in
+      leb-true (getD ms 0 0 + getD ms 1 0) 1048574 (both-true (leb (getD ms 1 0) 1) (leb (getD ms 0 0 + getD ms 1 0) 1048574) (g .0) .1)
 
   pub held : ItemsHeld (stateOf ms) ns
   held = record {
@@ -126,16 +128,16 @@ module _ (ns ms : List ℕ) (e : isLent ns ms ≡ true) where
 
 -- ---- what is read of a state that was written
 
-bit-back : (b : Bool) → eqb (bit b) 1 ≡ b
-bit-back true = refl
-bit-back false = refl
-
 state-back : (s : State) → stateOf (stateNumbers s) ≡ s
-state-back s = ap {B = State} (λ (b : Bool). record { current = s .current; opened = b; count = s .count; oldest = s .oldest; edition = s .edition }) (bit-back (s .opened))
+state-back s =
+    ap {B = State} (λ (b : Bool). record { current = s .current; opened = b; count = s .count; oldest = s .oldest; edition = s .edition })
+    (bit-back (s .opened))
 
 module _ (r : Left) (n : ℕ) (ns ms : List ℕ) (e : n ≡ r .number) (f : ms ≡ stateNumbers (r .state)) where
   pub kept-given : leftLent n ns ms ≡ givenBy r ns
-  kept-given = ap₂ {C = Given} (λ (m : ℕ) (us : List ℕ). leftLent m ns us) e f ∙ ap {B = Given} (λ (s : State). record { number = r .number; plain = plainOf s ns }) (state-back (r .state))
+  kept-given =
+      ap₂ {C = Given} (λ (m : ℕ) (us : List ℕ). leftLent m ns us) e f
+      ∙ ap {B = Given} (λ (s : State). record { number = r .number; plain = plainOf s ns }) (state-back (r .state))
 
 -- the items left are as many as the state's third number can say
 pub kept-few : (r : Left) (ns : List ℕ) (g : Given) → givenBy r ns ≡ g → 4 * length (g .plain .items) ≤ longest → r .state .count < 2 ^ 32
@@ -152,12 +154,13 @@ module _ (b : Bool) (p : Plain) (g : Given) where
   pub guarded-some : b ≡ true → g ≡ guarded b p g
   guarded-some e = sym (ap (λ (c : Bool). guarded c p g) e)
 
-unless-number : (n : ℕ) (p q : Plain) → unless n p q .number ≡ n
+pub unless-number : (n : ℕ) (p q : Plain) → unless n p q .number ≡ n
 unless-number zero p q = refl
 unless-number (suc n) p q = refl
 
 -- a call has room that lacks none
-unless-room : (n : ℕ) (p q : Plain) (ns : List ℕ) (m : ℕ) → lacks ns m n ≡ false → 4 * length (p .items) ≤ length ns → (n ≡ 0 → length (q .items) ≤ m)
+unless-room : (n : ℕ) (p q : Plain) (ns : List ℕ) (m : ℕ) → lacks ns m n ≡ false → 4 * length (p .items) ≤ length ns
+    → (n ≡ 0 → length (q .items) ≤ m)
     → 4 * length (unless n p q .plain .items) ≤ length ns
 unless-room zero p q ns m e h i = omega (arith, ltb-false (length ns) (4 * m) e, i refl)
 unless-room (suc n) p q ns m e h i = h
@@ -178,32 +181,39 @@ module _ (ns : List ℕ) (m : ℕ) (p : Plain) (g : Given) where
 module _ (p : Plain) where
   pub begin-few : length (begin p .plain .items) ≤ length (p .items)
   unfolding begin
-  begin-few = unless-few (firstOf (rule 8 (p .opened) ∷ rule 9 (leb 1048574 (p .current)) ∷ [])) p (standing p (p .current) true (p .items)) (omega arith)
+  begin-few =
+      unless-few (firstOf (rule 8 (p .opened) ∷ rule 9 (leb 1048574 (p .current)) ∷ [])) p (standing p (p .current) true (p .items))
+      (omega arith)
 
   pub delete-few : (k : ℕ) → length (delete p k .plain .items) ≤ length (p .items)
   unfolding delete
   delete-few k =
       let es = p .items in
       let few = ap (λ (xs : List Entry). length xs) (swept-ended (next p) k es) in
-      unless-few (firstOf (deleteTests k (p .opened) (isSome (valueAt k (next p) es)))) p (holding p (endKey (next p) k es)) (omega (arith, few, swept-few (fate (next p) false k) es))
+      unless-few (firstOf (deleteTests k (p .opened) (isSome (valueAt k (next p) es)))) p (holding p (endKey (next p) k es))
+      (omega (arith, few, swept-few (fate (next p) false k) es))
 
   pub commit-few : length (commit p .plain .items) ≤ length (p .items)
   unfolding commit
-  commit-few = unless-few (firstOf (rule 7 (not (p .opened)) ∷ rule 15 (isEmpty (differs (p .current) (next p) (p .items))) ∷ [])) p (standing p (next p) false (p .items)) (omega arith)
+  commit-few =
+      unless-few (firstOf (rule 7 (not (p .opened)) ∷ rule 15 (isEmpty (differs (p .current) (next p) (p .items))) ∷ [])) p
+      (standing p (next p) false (p .items)) (omega arith)
 
   pub abandon-few : length (abandon p .plain .items) ≤ length (p .items)
   unfolding abandon
   abandon-few =
       let es = p .items in
       let few = ap (λ (xs : List Entry). length xs) (swept-undone (next p) 0 es) in
-      unless-few (firstOf (rule 7 (not (p .opened)) ∷ [])) p (standing p (p .current) false (restoredEntries (next p) es)) (omega (arith, few, swept-few (fate (next p) true 0) es))
+      unless-few (firstOf (rule 7 (not (p .opened)) ∷ [])) p (standing p (p .current) false (restoredEntries (next p) es))
+      (omega (arith, few, swept-few (fate (next p) true 0) es))
 
   pub prune-few : (v : ℕ) → length (prune p v .plain .items) ≤ length (p .items)
   unfolding prune
   prune-few v =
       let es = p .items in
       let few = ap (λ (xs : List Entry). length xs) (swept-outliving v es) in
-      unless-few (firstOf (rule 3 (eqb (p .edition) 1) ∷ pruneTests (p .oldest) (p .current) (p .opened) v)) p (pruned p v) (omega (arith, few, swept-few (outliving v) es))
+      unless-few (firstOf (rule 3 (eqb (p .edition) 1) ∷ pruneTests (p .oldest) (p .current) (p .opened) v)) p (pruned p v)
+      (omega (arith, few, swept-few (outliving v) es))
 
 -- ---- the tests of an insert and of a return, one after another
 
@@ -222,10 +232,14 @@ module _ (ns : List ℕ) (m k : ℕ) (opened : Bool) (o : Option ℕ) where
     lacks-seven e = sym (ap₂ {C = Bool} (λ (a b : Bool). lacking a b (isSome o)) (lt-leb benchLimit k h) e)
 
     pub lacks-ten : opened ≡ true → (y : ℕ) → o ≡ some y → false ≡ insertLacks
-    lacks-ten e y f = sym (ap₂ {C = Bool} (λ (a b : Bool). lacking a b (isSome o)) (lt-leb benchLimit k h) e ∙ ap (λ (z : Option ℕ). lacking false true (isSome z)) f)
+    lacks-ten e y f =
+        sym (ap₂ {C = Bool} (λ (a b : Bool). lacking a b (isSome o)) (lt-leb benchLimit k h) e
+        ∙ ap (λ (z : Option ℕ). lacking false true (isSome z)) f)
 
     pub lacks-room : opened ≡ true → o ≡ none → ltb (length ns) (4 * m) ≡ insertLacks
-    lacks-room e f = sym (ap₂ {C = Bool} (λ (a b : Bool). lacking a b (isSome o)) (lt-leb benchLimit k h) e ∙ ap (λ (z : Option ℕ). lacking false true (isSome z)) f)
+    lacks-room e f =
+        sym (ap₂ {C = Bool} (λ (a b : Bool). lacking a b (isSome o)) (lt-leb benchLimit k h) e
+        ∙ ap (λ (z : Option ℕ). lacking false true (isSome z)) f)
 
 module _ (ns : List ℕ) (m old c : ℕ) (opened : Bool) (v : ℕ) where
   abbrev lacking-two : Bool → Bool → Bool
@@ -251,7 +265,8 @@ module _ (p : Plain) (k x : ℕ) where
   unfolding insert
   insert-number = unless-number inserting p (holding p (setKey (next p) k x (p .items)))
 
-  pub insert-room : (ns : List ℕ) → lacks ns (length (p .items) + 1) inserting ≡ false → 4 * length (p .items) ≤ length ns → Room (insert p k x) ns
+  pub insert-room : (ns : List ℕ) → lacks ns (length (p .items) + 1) inserting ≡ false → 4 * length (p .items) ≤ length ns
+      → Room (insert p k x) ns
   unfolding insert
   insert-room ns e h =
       unless-room inserting p (holding p (setKey (next p) k x (p .items))) ns (length (p .items) + 1) e h
@@ -268,13 +283,15 @@ module _ (p : Plain) (v : ℕ) where
   may-return : returning ≡ 0 → (v ≤ p .current) × (p .opened ≡ true)
   may-return = at (ltb (p .current) v) refl (ltb v (p .oldest)) (p .opened) refl
     where
-      at : (a : Bool) → ltb (p .current) v ≡ a → (c b : Bool) → p .opened ≡ b → firstOf (rule 6 (a || c) ∷ rule 7 (not b) ∷ []) ≡ 0 → (v ≤ p .current) × (p .opened ≡ true)
+      at : (a : Bool) → ltb (p .current) v ≡ a → (c b : Bool) → p .opened ≡ b → firstOf (rule 6 (a || c) ∷ rule 7 (not b) ∷ []) ≡ 0
+          → (v ≤ p .current) × (p .opened ≡ true)
       at true e c b f z = absurd (omega (arith, z))
       at false e true b f z = absurd (omega (arith, z))
       at false e false true f z = (ltb-false (p .current) v e, f)
       at false e false false f z = absurd (omega (arith, z))
 
-  pub return-room : (ns : List ℕ) → (p .opened ≡ true → next p < alive) → lacks ns (length (p .items) + ownInserts p v) returning ≡ false → 4 * length (p .items) ≤ length ns → Room (return p v) ns
+  pub return-room : (ns : List ℕ) → (p .opened ≡ true → next p < alive) → lacks ns (length (p .items) + ownInserts p v) returning ≡ false
+      → 4 * length (p .items) ≤ length ns → Room (return p v) ns
   unfolding return
   return-room ns last e h =
       unless-room returning p (holding p (backTo (next p) v (p .items))) ns (length (p .items) + ownInserts p v) e h
@@ -316,7 +333,9 @@ module _ (ns ms : List ℕ) (lent : isLent ns ms ≡ true) (s : State) (is : s �
     there = readPlain ns ms
 
     insert-lack : lacks ns (stateOf ms .count + 1) (insert there k x .number) ≡ b
-    insert-lack = ap (lacks ns (stateOf ms .count + 1)) (insert-number there k x) ∙ sym (ap (λ (t : State). lacks ns (t .count + 1) (inserting (plainOf t ns) k x)) is) ∙ sym e
+    insert-lack =
+        ap (lacks ns (stateOf ms .count + 1)) (insert-number there k x)
+        ∙ sym (ap (λ (t : State). lacks ns (t .count + 1) (inserting (plainOf t ns) k x)) is) ∙ sym e
 
     pub own-insert-room : b ≡ false → Room (insert own k x) ns
     own-insert-room f = insert-room own k x ns (ap (λ (m : ℕ). lacks ns (m + 1) (inserting own k x)) own-count ∙ sym e ∙ f) own-items
@@ -335,10 +354,13 @@ module _ (ns ms : List ℕ) (lent : isLent ns ms ≡ true) (s : State) (is : s �
     need = stateOf ms .count + ownInserts where-back v
 
     return-lack : lacks ns need (return where-back v .number) ≡ b
-    return-lack = ap (lacks ns need) (return-number where-back v) ∙ sym (ap (λ (t : State). lacks ns (t .count + ownInserts (plainOf t ns) v) (returning (plainOf t ns) v)) is) ∙ sym e
+    return-lack =
+        ap (lacks ns need) (return-number where-back v)
+        ∙ sym (ap (λ (t : State). lacks ns (t .count + ownInserts (plainOf t ns) v) (returning (plainOf t ns) v)) is) ∙ sym e
 
     pub own-return-room : b ≡ false → Room (return own v) ns
-    own-return-room f = return-room own v ns own-open (ap (λ (m : ℕ). lacks ns (m + ownInserts own v) (returning own v)) own-count ∙ sym e ∙ f) own-items
+    own-return-room f =
+        return-room own v ns own-open (ap (λ (m : ℕ). lacks ns (m + ownInserts own v) (returning own v)) own-count ∙ sym e ∙ f) own-items
 
     pub own-return-short : b ≡ true → leftLent 14 ns ms ≡ fitted ns need where-back (return where-back v)
     own-return-short f = fitted-short ns need where-back (return where-back v) (return-lack ∙ f)
@@ -353,4 +375,5 @@ open-fits s r does h =
     omega (arith, f, from-length [] (r .state .count), from-length [] (s .count), begin-few (plainOf s []), h)
 
 pub not-both : (b : Bool) → b ≡ true → b ≡ false → {A : Type 0} → A
-not-both b e f = absurd (let z : _≡_ {A = Bool} true false = sym e ∙ f in let y : _≡_ {A = ℕ} 1 0 = ap (λ (c : Bool). pick c 1 0) z in omega (arith, y))
+not-both b e f =
+    absurd (let z : _≡_ {A = Bool} true false = sym e ∙ f in let y : _≡_ {A = ℕ} 1 0 = ap (λ (c : Bool). pick c 1 0) z in omega (arith, y))

@@ -13,7 +13,8 @@ abbrev pub givenBy : Left → List ℕ → Given
 givenBy r ns = record { number = r .number; plain = plainOf (r .state) ns }
 
 abbrev pub leftWith : ℕ → State → ℕ → Left
-leftWith n s c = record { number = n; state = record { current = s .current; opened = s .opened; count = c; oldest = s .oldest; edition = s .edition } }
+leftWith n s c =
+    record { number = n; state = record { current = s .current; opened = s .opened; count = c; oldest = s .oldest; edition = s .edition } }
 
 -- the list has the room for the items that a call leaves
 abbrev pub Room : Given → List ℕ → Type 0

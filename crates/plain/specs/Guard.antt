@@ -1,4 +1,5 @@
--- The plain store as other languages lend it: any five numbers for a state, and any list. "No `requires`" there: what the calls ask is tested.
+-- The plain store as other languages lend it: any five numbers for a state, and any list. "No `requires`" there: what the calls ask is
+-- tested.
 -- Assumes nothing.
 use Prim.Native.Nat.{ℕ, _+_, _*_}
 use mathlib.Core.Bool.{Bool, true, false, _&&_}
@@ -15,19 +16,22 @@ use Rattle.model.specs.Lent.{Listed, listed}
 use Rattle.model.specs.Return.{comes}
 use Rattle.plain.specs.declared.State.{State}
 use Rattle.plain.specs.declared.items.Found.{Found}
-use Rattle.plain.specs.Plain.{Plain, Given, next, differs, begin, insert, delete, commit, abandon, return, prune, lookup, range, difference, life}
+use Rattle.plain.specs.Plain.{Plain, Given, next, differs, begin, insert, delete, commit, abandon, return, prune, lookup, range}
+use Rattle.plain.specs.Plain.{difference, life}
 use Rattle.plain.specs.Items.{plainOf}
 use Rattle.plain.specs.Scan.{sameFound}
 
 -- ---- the five numbers: current version, 1 if an update is open, how many items, oldest version, edition
 
 abbrev pub stateOf : List ℕ → State
-stateOf ms = record { current = getD ms 0 0; opened = eqb (getD ms 1 0) 1; count = getD ms 2 0; oldest = getD ms 3 0; edition = getD ms 4 0 }
+stateOf ms =
+    record { current = getD ms 0 0; opened = eqb (getD ms 1 0) 1; count = getD ms 2 0; oldest = getD ms 3 0; edition = getD ms 4 0 }
 
 abbrev pub stateNumbers : State → List ℕ
 stateNumbers s = s .current ∷ bit (s .opened) ∷ s .count ∷ s .oldest ∷ s .edition ∷ []
 
--- they are a state: "versions are 0 to 1,048,574", the open one too; the oldest "is at most the current version"; and there are two editions
+-- they are a state: "versions are 0 to 1,048,574", the open one too; the oldest "is at most the current version"; and there are two
+-- editions
 abbrev pub areVersions : ℕ → ℕ → Bool
 areVersions current opened = leb opened 1 && leb (current + opened) 1048574
 
@@ -125,7 +129,8 @@ OpensGuarded ms r ms′ = (ns : List ℕ) → leftLent r ns ms′ ≡ guarded (i
 abbrev pub Spared : Bool → List ℕ → List ℕ → Type 0
 Spared lent ns ns′ = lent ≡ false → ns′ ≡ ns
 
--- what is left of a plain store is one again: five numbers that are a state, the flag among them, and a list as long as it was that holds the items
+-- what is left of a plain store is one again: five numbers that are a state, the flag among them, and a list as long as it was that holds
+-- the items
 abbrev pub StateAgain : List ℕ → List ℕ → Type 0
 StateAgain ms ms′ = isState ms ≡ true → isState ms′ ≡ true
 

@@ -8,4 +8,5 @@ use Rattle.model.specs.declared.Entry.{Entry}
 
 -- an item's numbers at place i
 abbrev pub laid : List ℕ → ℕ → Entry → List ℕ
-laid ns i e = set (set (set (set ns (4 * i) (e .key)) (suc (4 * i)) (e .start)) (suc (suc (4 * i))) (e .end)) (suc (suc (suc (4 * i)))) (e .value)
+laid ns i e =
+    set (set (set (set ns (4 * i) (e .key)) (suc (4 * i)) (e .start)) (suc (suc (4 * i))) (e .end)) (suc (suc (suc (4 * i)))) (e .value)

@@ -16,14 +16,15 @@ use Rattle.model.specs.declared.Looked.{Looked}
 use Rattle.model.specs.Entry.{pair, liveAt, born, endThose}
 use Rattle.model.specs.Store.{lastOf}
 use Rattle.model.specs.Walk.{keyLimit}
-use Rattle.model.specs.Calls.{isSome, rule, firstOf, beyond, insertTests, deleteTests, pruneTests, restoredEntries, lookedBy, Ranged, rangedBy}
+use Rattle.model.specs.Calls.{isSome, rule, firstOf, beyond, insertTests, deleteTests, pruneTests, restoredEntries, lookedBy, Ranged}
+use Rattle.model.specs.Calls.{rangedBy}
 use Rattle.model.specs.Told.{toldBy}
 use Rattle.model.specs.Differ.{saysOf, deltaNumbers}
 use Rattle.model.specs.Life.{lifeOf, stretchNumbers}
 use Rattle.model.specs.Return.{returnTests}
 
--- current version, whether an update is open, the oldest version (2026-12), the edition (1 or 2: "pruning edition 1 gives 3"), and the items,
--- in the order in which they were inserted
+-- current version, whether an update is open, the oldest version (2026-12), the edition (1 or 2: "pruning edition 1 gives 3"), and the
+-- items, in the order in which they were inserted
 pub record Plain : Type 0 where
   pub current : ℕ
   pub opened : Bool
@@ -133,10 +134,12 @@ unfoldable pub begin : Plain → Given
 begin p = unless (firstOf (rule 8 (p .opened) ∷ rule 9 (leb 1048574 (p .current)) ∷ [])) p (standing p (p .current) true (p .items))
 
 unfoldable pub insert : Plain → ℕ → ℕ → Given
-insert p k x = unless (firstOf (insertTests k (p .opened) (isSome (valueAt k (next p) (p .items))))) p (holding p (setKey (next p) k x (p .items)))
+insert p k x =
+    unless (firstOf (insertTests k (p .opened) (isSome (valueAt k (next p) (p .items))))) p (holding p (setKey (next p) k x (p .items)))
 
 unfoldable pub delete : Plain → ℕ → Given
-delete p k = unless (firstOf (deleteTests k (p .opened) (isSome (valueAt k (next p) (p .items))))) p (holding p (endKey (next p) k (p .items)))
+delete p k =
+    unless (firstOf (deleteTests k (p .opened) (isSome (valueAt k (next p) (p .items))))) p (holding p (endKey (next p) k (p .items)))
 
 -- 2026-05: 15 where nothing differs
 unfoldable pub commit : Plain → Given
@@ -166,11 +169,14 @@ lookup p k v = lookedBy (firstOf (rule 5 (leb keyLimit k) ∷ rule 6 (unreadable
 -- room: how many numbers the caller's list holds
 unfoldable pub range : Plain → ℕ → ℕ → ℕ → ℕ → Ranged
 range p lo hi v room =
-    rangedBy (firstOf (rule 5 (leb keyLimit lo || leb keyLimit hi || ltb hi lo) ∷ rule 6 (unreadable p v) ∷ [])) room (settings lo hi v (p .items))
+    rangedBy (firstOf (rule 5 (leb keyLimit lo || leb keyLimit hi || ltb hi lo) ∷ rule 6 (unreadable p v) ∷ [])) room
+    (settings lo hi v (p .items))
 
 unfoldable pub difference : Plain → ℕ → ℕ → ℕ → Ranged
 difference p u v room = toldBy deltaNumbers 4 (firstOf (rule 6 (unreadable p u || unreadable p v) ∷ [])) room (differs u v (p .items))
 
 -- a life begins at the oldest version
 unfoldable pub life : Plain → ℕ → ℕ → Ranged
-life p k room = toldBy stretchNumbers 3 (firstOf (rule 5 (leb keyLimit k) ∷ [])) room (lifeOf (p .oldest) (p .current) (λ (v : ℕ). valueAt k v (p .items)))
+life p k room =
+    toldBy stretchNumbers 3 (firstOf (rule 5 (leb keyLimit k) ∷ [])) room
+    (lifeOf (p .oldest) (p .current) (λ (v : ℕ). valueAt k v (p .items)))

@@ -105,7 +105,8 @@ pub fn keep(state: &mut [u32; 5], r: Left) -> u32
 // Whether an insert would be done, and the list has not the room for its item.
 pub fn insert_lacks(items: &[u32], s: State, key: u32) -> bool
     requires { ⌜ ItemsHeld s (now items) ⌝ }
-    ensures { λ r. ⌜ r ≡ lacks (now (items .entry)) (s .count + 1) (firstOf (insertTests key (s .opened) (isSome (valueAt key (suc (s .current)) (from (now (items .entry)) 0 (s .count)))))) ⌝ }
+    ensures { λ r. ⌜ r ≡ lacks (now (items .entry)) (s .count + 1)
+        (firstOf (insertTests key (s .opened) (isSome (valueAt key (suc (s .current)) (from (now (items .entry)) 0 (s .count)))))) ⌝ }
 {
     if BENCH <= key {
         return false;
@@ -123,7 +124,8 @@ pub fn insert_lacks(items: &[u32], s: State, key: u32) -> bool
 // Whether a return would be done, and the list has not the room for its inserts.
 pub fn return_lacks(items: &[u32], s: State, v: u32) -> bool
     requires { ⌜ ItemsHeld s (now items) ⌝ }
-    ensures { λ r. ⌜ r ≡ lacks (now (items .entry)) (s .count + ownInserts (plainOf s (now (items .entry))) v) (firstOf (returnTests (s .oldest) (s .current) (s .opened) v)) ⌝ }
+    ensures { λ r. ⌜ r ≡ lacks (now (items .entry)) (s .count + ownInserts (plainOf s (now (items .entry))) v)
+        (firstOf (returnTests (s .oldest) (s .current) (s .opened) v)) ⌝ }
 {
     if s.uncommitted(v) {
         return false;

@@ -5,7 +5,9 @@ use crate::guard;
 use model::Looked;
 ghost use mathlib.Core.Path.{_≡_};
 ghost use Rattle.plain.specs.Tell.{toldWith};
-ghost use Rattle.plain.specs.Guard.{isState, isLent, leftLent, insertGuarded, deleteGuarded, commitGuarded, abandonGuarded, returnGuarded, pruneGuarded, lookupGuarded, rangeGuarded, differenceGuarded, lifeGuarded, OpensGuarded, Spared, StateAgain, LentAgain};
+ghost use Rattle.plain.specs.Guard.{isState, isLent, leftLent, insertGuarded, deleteGuarded, commitGuarded, abandonGuarded};
+ghost use Rattle.plain.specs.Guard.{returnGuarded, pruneGuarded, lookupGuarded, rangeGuarded, differenceGuarded, lifeGuarded};
+ghost use Rattle.plain.specs.Guard.{OpensGuarded, Spared, StateAgain, LentAgain};
 
 // No state, or the list does not hold its items.
 const NONE: u32 = 4;
@@ -26,7 +28,8 @@ pub fn open(state: &mut [u32; 5]) -> u32
 }
 
 pub fn insert(items: &mut [u32], state: &mut [u32; 5], key: u32, value: u32) -> u32
-    ensures given { λ r. ⌜ leftLent r (now (items .exit)) (now (state .exit)) ≡ insertGuarded (now (items .entry)) (now (state .entry)) key value ⌝ }
+    ensures given { λ r. ⌜ leftLent r (now (items .exit)) (now (state .exit))
+        ≡ insertGuarded (now (items .entry)) (now (state .entry)) key value ⌝ }
     ensures spared { λ _. ⌜ Spared (isLent (now (items .entry)) (now (state .entry))) (now (state .entry)) (now (state .exit)) ⌝ }
     ensures untouched { λ _. ⌜ Spared (isLent (now (items .entry)) (now (state .entry))) (now (items .entry)) (now (items .exit)) ⌝ }
     ensures again { λ _. ⌜ LentAgain (now (items .entry)) (now (state .entry)) (now (items .exit)) (now (state .exit)) ⌝ }
@@ -43,7 +46,8 @@ pub fn insert(items: &mut [u32], state: &mut [u32; 5], key: u32, value: u32) -> 
 }
 
 pub fn delete(items: &mut [u32], state: &mut [u32; 5], key: u32) -> u32
-    ensures given { λ r. ⌜ leftLent r (now (items .exit)) (now (state .exit)) ≡ deleteGuarded (now (items .entry)) (now (state .entry)) key ⌝ }
+    ensures given { λ r. ⌜ leftLent r (now (items .exit)) (now (state .exit))
+        ≡ deleteGuarded (now (items .entry)) (now (state .entry)) key ⌝ }
     ensures spared { λ _. ⌜ Spared (isLent (now (items .entry)) (now (state .entry))) (now (state .entry)) (now (state .exit)) ⌝ }
     ensures untouched { λ _. ⌜ Spared (isLent (now (items .entry)) (now (state .entry))) (now (items .entry)) (now (items .exit)) ⌝ }
     ensures again { λ _. ⌜ LentAgain (now (items .entry)) (now (state .entry)) (now (items .exit)) (now (state .exit)) ⌝ }
@@ -84,7 +88,8 @@ pub fn abandon(items: &mut [u32], state: &mut [u32; 5]) -> u32
 }
 
 pub fn return_to(items: &mut [u32], state: &mut [u32; 5], version: u32) -> u32
-    ensures given { λ r. ⌜ leftLent r (now (items .exit)) (now (state .exit)) ≡ returnGuarded (now (items .entry)) (now (state .entry)) version ⌝ }
+    ensures given { λ r. ⌜ leftLent r (now (items .exit)) (now (state .exit))
+        ≡ returnGuarded (now (items .entry)) (now (state .entry)) version ⌝ }
     ensures spared { λ _. ⌜ Spared (isLent (now (items .entry)) (now (state .entry))) (now (state .entry)) (now (state .exit)) ⌝ }
     ensures untouched { λ _. ⌜ Spared (isLent (now (items .entry)) (now (state .entry))) (now (items .entry)) (now (items .exit)) ⌝ }
     ensures again { λ _. ⌜ LentAgain (now (items .entry)) (now (state .entry)) (now (items .exit)) (now (state .exit)) ⌝ }
@@ -101,7 +106,8 @@ pub fn return_to(items: &mut [u32], state: &mut [u32; 5], version: u32) -> u32
 }
 
 pub fn prune(items: &mut [u32], state: &mut [u32; 5], version: u32) -> u32
-    ensures given { λ r. ⌜ leftLent r (now (items .exit)) (now (state .exit)) ≡ pruneGuarded (now (items .entry)) (now (state .entry)) version ⌝ }
+    ensures given { λ r. ⌜ leftLent r (now (items .exit)) (now (state .exit))
+        ≡ pruneGuarded (now (items .entry)) (now (state .entry)) version ⌝ }
     ensures spared { λ _. ⌜ Spared (isLent (now (items .entry)) (now (state .entry))) (now (state .entry)) (now (state .exit)) ⌝ }
     ensures untouched { λ _. ⌜ Spared (isLent (now (items .entry)) (now (state .entry))) (now (items .entry)) (now (items .exit)) ⌝ }
     ensures again { λ _. ⌜ LentAgain (now (items .entry)) (now (state .entry)) (now (items .exit)) (now (state .exit)) ⌝ }
@@ -131,7 +137,8 @@ pub fn range(
     version: u32,
     list: &mut [u32],
 ) -> Told
-    ensures { λ r. ⌜ toldWith r (now (list .exit)) ≡ rangeGuarded (now (items .entry)) (now (state .entry)) low high version (now (list .entry)) ⌝ }
+    ensures { λ r. ⌜ toldWith r (now (list .exit))
+        ≡ rangeGuarded (now (items .entry)) (now (state .entry)) low high version (now (list .entry)) ⌝ }
 {
     if !guard::is_lent(items, state) {
         return crate::told_as(NONE, 0);
@@ -140,7 +147,8 @@ pub fn range(
 }
 
 pub fn difference(items: &[u32], state: &[u32; 5], old: u32, new: u32, list: &mut [u32]) -> Told
-    ensures { λ r. ⌜ toldWith r (now (list .exit)) ≡ differenceGuarded (now (items .entry)) (now (state .entry)) old new (now (list .entry)) ⌝ }
+    ensures { λ r. ⌜ toldWith r (now (list .exit))
+        ≡ differenceGuarded (now (items .entry)) (now (state .entry)) old new (now (list .entry)) ⌝ }
 {
     if !guard::is_lent(items, state) {
         return crate::told_as(NONE, 0);

@@ -305,7 +305,8 @@ fn bad_range(low: u32, high: u32) -> bool
 // The settings are counted before any is written, so that 14 leaves the list untouched.
 pub fn range(items: &[u32], s: State, low: u32, high: u32, v: u32, list: &mut [u32]) -> Told
     requires { ⌜ ItemsHeld s (now items) ⌝ }
-    ensures { λ r. ⌜ toldWith r (now (list .exit)) ≡ listed (now (list .entry)) (range (plainOf s (now (items .entry))) low high v (length (now (list .entry)))) ⌝ }
+    ensures { λ r. ⌜ toldWith r (now (list .exit))
+        ≡ listed (now (list .entry)) (range (plainOf s (now (items .entry))) low high v (length (now (list .entry)))) ⌝ }
 {
     if bad_range(low, high) {
         return told_as(5, 0);
@@ -323,7 +324,8 @@ pub fn range(items: &[u32], s: State, low: u32, high: u32, v: u32, list: &mut [u
 
 pub fn difference(items: &[u32], s: State, u: u32, v: u32, list: &mut [u32]) -> Told
     requires { ⌜ ItemsHeld s (now items) ⌝ }
-    ensures { λ r. ⌜ toldWith r (now (list .exit)) ≡ listed (now (list .entry)) (difference (plainOf s (now (items .entry))) u v (length (now (list .entry)))) ⌝ }
+    ensures { λ r. ⌜ toldWith r (now (list .exit))
+        ≡ listed (now (list .entry)) (difference (plainOf s (now (items .entry))) u v (length (now (list .entry)))) ⌝ }
 {
     if s.unreadable(u) {
         return told_as(6, 0);
@@ -342,7 +344,8 @@ pub fn difference(items: &[u32], s: State, u: u32, v: u32, list: &mut [u32]) -> 
 // The life of a key from the oldest version on; "an open update is not shown".
 pub fn life_of(items: &[u32], s: State, key: u32, list: &mut [u32]) -> Told
     requires { ⌜ ItemsHeld s (now items) ⌝ }
-    ensures { λ r. ⌜ toldWith r (now (list .exit)) ≡ listed (now (list .entry)) (life (plainOf s (now (items .entry))) key (length (now (list .entry)))) ⌝ }
+    ensures { λ r. ⌜ toldWith r (now (list .exit))
+        ≡ listed (now (list .entry)) (life (plainOf s (now (items .entry))) key (length (now (list .entry)))) ⌝ }
 {
     if KEYS <= key {
         return told_as(5, 0);

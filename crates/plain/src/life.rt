@@ -17,7 +17,8 @@ ghost use Rattle.model.specs.Inner.{Lasts};
 ghost use Rattle.model.specs.Telling.{written, Space, Gathers};
 ghost use Rattle.plain.specs.Plain.{valueAt};
 ghost use Rattle.plain.specs.Items.{from, foundOf};
-ghost use Rattle.plain.specs.Lived.{stretches, Sooner, ItemStill, Until, shown};
+ghost use Rattle.model.specs.Still.{stretches, Sooner, Until};
+ghost use Rattle.plain.specs.Lived.{ItemStill, shown};
 
 // r, or x where it stands between v and r.
 fn sooner(v: u32, r: u32, x: u32) -> u32
@@ -124,8 +125,10 @@ pub fn tell_life(
     list: &mut [u32],
     write: bool,
 ) -> usize
-    requires { ⌜ (4 * n ≤ length (now items)) × (c ≤ 1048574) × Space stretches write (now list) 0 (lifeOf old c (λ w. valueAt key w (from (now items) 0 n))) ⌝ }
-    ensures { λ r. ⌜ Gathers stretches write (now (list .entry)) (now (list .exit)) 0 r (lifeOf old c (λ w. valueAt key w (from (now (items .entry)) 0 n))) ⌝ }
+    requires { ⌜ (4 * n ≤ length (now items)) × (c ≤ 1048574)
+        × Space stretches write (now list) 0 (lifeOf old c (λ w. valueAt key w (from (now items) 0 n))) ⌝ }
+    ensures { λ r. ⌜ Gathers stretches write (now (list .entry)) (now (list .exit)) 0 r
+        (lifeOf old c (λ w. valueAt key w (from (now (items .entry)) 0 n))) ⌝ }
 {
     let mut found = 0;
     let mut v = old;

@@ -88,7 +88,8 @@ fn keep(items: &mut [u32], j: usize, e: Entry, f: Lot) -> usize
 // The first n items swept: with `undo` what an abandon of version w leaves, else what ending the key at w leaves. Gives how many stay.
 pub fn sweep(items: &mut [u32], n: usize, w: u32, undo: bool, key: u32) -> usize
     requires { ⌜ Lent n (now items) ⌝ }
-    ensures { λ r. ⌜ Gathers kept true (now (items .entry)) (now (items .exit)) 0 r (swept (fate w undo key) (from (now (items .entry)) 0 n)) ⌝ }
+    ensures { λ r. ⌜ Gathers kept true (now (items .entry)) (now (items .exit)) 0 r
+        (swept (fate w undo key) (from (now (items .entry)) 0 n)) ⌝ }
 {
     let mut j = 0;
     let mut i = 0;
@@ -113,7 +114,8 @@ fn outliving(e: Entry, v: u32) -> Lot
 // The first n items without those that ended at or before v. Gives how many stay.
 pub fn drop_ended(items: &mut [u32], n: usize, v: u32) -> usize
     requires { ⌜ Lent n (now items) ⌝ }
-    ensures { λ r. ⌜ Gathers kept true (now (items .entry)) (now (items .exit)) 0 r (swept (outliving v) (from (now (items .entry)) 0 n)) ⌝ }
+    ensures { λ r. ⌜ Gathers kept true (now (items .entry)) (now (items .exit)) 0 r
+        (swept (outliving v) (from (now (items .entry)) 0 n)) ⌝ }
 {
     let mut j = 0;
     let mut i = 0;

@@ -47,8 +47,10 @@ pub fn tell_settings(
     list: &mut [u32],
     write: bool,
 ) -> usize
-    requires { ⌜ (4 * n ≤ length (now items)) × (high < keyLimit) × (low ≤ high) × Space pairs write (now list) 0 (settings low high v (from (now items) 0 n)) ⌝ }
-    ensures { λ r. ⌜ Gathers pairs write (now (list .entry)) (now (list .exit)) 0 r (settings low high v (from (now (items .entry)) 0 n)) ⌝ }
+    requires { ⌜ (4 * n ≤ length (now items)) × (high < keyLimit) × (low ≤ high)
+        × Space pairs write (now list) 0 (settings low high v (from (now items) 0 n)) ⌝ }
+    ensures { λ r. ⌜ Gathers pairs write (now (list .entry)) (now (list .exit)) 0 r
+        (settings low high v (from (now (items .entry)) 0 n)) ⌝ }
 {
     let mut found = 0;
     let mut k = scan::next_key(items, n, low, v, v);

@@ -7,10 +7,10 @@ use lib.Dec.{leb, ltb}
 use lib.ListN.{length, getD}
 use Rattle.model.specs.declared.Pair.{Pair}
 use Rattle.model.specs.Walk as walk
-use Rattle.model.proofs.lists.Members.{In}
 use Rattle.edit.specs.Fill.{nil, Fitting}
 use Rattle.model.specs.declared.Limits.{Limits}
 use Rattle.model.specs.Layout.{decode}
+use Rattle.model.specs.Inner.{In}
 use Rattle.group.specs.declared.Around.{Around}
 use Rattle.group.specs.Group.{beside}
 use Rattle.plan.specs.declared.Way.{Way}

@@ -39,16 +39,20 @@ pub delete-opened : (k : ℕ) (o alive : Bool) (n : ℕ) → Gives (firstOf (del
 delete-opened k o alive n g e = opened-by (leb keyLimit k) o (not alive) 11 n (omega arith) g e
 
 module _ (b : List ℕ) (t : Turn) (ok : Accepts b) (fit : fitting (kindOf (t .call)) ≡ true) (done : ended (t .call) b (t .list) .number ≡ 0)
-    (o : storeOf b .opened ≡ true) (g : List Pair → List Pair) (is : stepped (kindOf (t .call)) (fromLent b .machine) ≡ edited g (fromLent b .machine)) where
+    (o : storeOf b .opened ≡ true) (g : List Pair → List Pair)
+    (is : stepped (kindOf (t .call)) (fromLent b .machine) ≡ edited g (fromLent b .machine)) where
   agreed : Agreed (onward (fromLent b) t)
   agreed = one-turn (fromLent b) (lent-agreed b ok) t fit
 
   machine-is : onward (fromLent b) t .machine ≡ edited g (fromLent b .machine)
-  machine-is = ap (λ (n : ℕ). whenDone n (stepped (kindOf (t .call)) (fromLent b .machine)) (undone (kindOf (t .call)) n (fromLent b .machine))) done ∙ is
+  machine-is =
+      ap (λ (n : ℕ). whenDone n (stepped (kindOf (t .call)) (fromLent b .machine)) (undone (kindOf (t .call)) n (fromLent b .machine))) done
+      ∙ is
 
   last-is : last (storeOf (onward (fromLent b) t .bytes)) ≡ suc (storeOf b .current)
   last-is =
-      ap₂ lastOf (agreed .agrees .opened ∙ ap (λ (m : Machine). m .opened) machine-is ∙ o) (agreed .agrees .current ∙ ap (λ (m : Machine). m .current) machine-is)
+      ap₂ lastOf (agreed .agrees .opened ∙ ap (λ (m : Machine). m .opened) machine-is ∙ o)
+      (agreed .agrees .current ∙ ap (λ (m : Machine). m .current) machine-is)
 
   old-is : storeOf (onward (fromLent b) t .bytes) .oldest ≡ storeOf b .oldest
   old-is = agreed .agrees .oldest ∙ ap (λ (m : Machine). m .oldest) machine-is
@@ -62,8 +66,10 @@ module _ (b : List ℕ) (t : Turn) (ok : Accepts b) (fit : fitting (kindOf (t .c
       let w : ℕ = suc (storeOf b .current) in
       let us : List Pair = g (settings (storeOf b) (suc (storeOf b .current))) in
       record {
-        last-one = shows w (omega (arith, old-current (leastOf b) (storeOf b) (lent-agreed b ok .agrees .is-sound .old-low))) (omega arith) ∙ ap (λ (q : Bool). pick q us (settings (storeOf b) w)) (eq-eqb w w refl);
-        older = λ v f h. shows v f (omega arith) ∙ ap (λ (q : Bool). pick q us (settings (storeOf b) v)) (ne-eqb v w (λ (e : v ≡ w). omega arith));
+        last-one = shows w (omega (arith, old-current (leastOf b) (storeOf b) (lent-agreed b ok .agrees .is-sound .old-low))) (omega arith)
+            ∙ ap (λ (q : Bool). pick q us (settings (storeOf b) w)) (eq-eqb w w refl);
+        older = λ v f h. shows v f (omega arith) ∙ ap (λ (q : Bool). pick q us (settings (storeOf b) v))
+            (ne-eqb v w (λ (e : v ≡ w). omega arith));
       }
 
 pub settings-change : SettingsChange

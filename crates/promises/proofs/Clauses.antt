@@ -20,27 +20,16 @@ use Rattle.model.specs.Layout.{pageOf, decode}
 use Rattle.model.specs.Clean.{cleanPage, cleanFront}
 use Rattle.model.specs.Near.{frontRight, pageRight, startsBy, downRight, rangeRight, fromRoot}
 use Rattle.model.proofs.lists.Lists.{both-true, all-cons}
-use Rattle.model.proofs.lists.Members.{not-both}
+use Rattle.model.proofs.lists.Bools.{clash, fails-left, fails-right}
 use Rattle.walk.proofs.laws.Live.{above}
 use Rattle.tabled.proofs.laws.Starts.{none-above}
 use Rattle.promises.specs.Near.{Some, Each, FrontWrong, Breaks, OtherLevel, NoRouter, WrongDown, WrongAcross, WrongFrom}
 
 -- ---- tests that fail
 
-pub clash : {A : Type 0} → true ≡ false → A
-clash e = absurd (not-both true refl e)
-
 fails-or : (a c : Bool) → (a && c) ≡ false → (a ≡ false) ⊎ (c ≡ false)
 fails-or true c e = inr e
 fails-or false c e = inl refl
-
-fails-left : (a c : Bool) → a ≡ false → (a && c) ≡ false
-fails-left true c e = clash e
-fails-left false c e = refl
-
-fails-right : (a c : Bool) → c ≡ false → (a && c) ≡ false
-fails-right true c e = e
-fails-right false c e = refl
 
 fails-all : {A : Type 0} (f : A → Bool) (g : A → Type 0) (xs : List A) → ((x : A) → f x ≡ false → g x) → all f xs ≡ false → Some g xs
 fails-all f g [] h e = clash e
@@ -85,27 +74,42 @@ module _ (least : ℕ) (b : List ℕ) where
       aged (inl e) = inr (inr (inl (leb-false old most e)))
       aged (inr e) = slots (fails-or (all good (decode least b .slots)) (rule2 (decode least b)) e)
 
-      fields : (leb top 1048574 ≡ false) ⊎ ((leb old most && (all good (decode least b .slots) && rule2 (decode least b))) ≡ false) → FrontWrong least b
+      fields : (leb top 1048574 ≡ false) ⊎ ((leb old most && (all good (decode least b .slots) && rule2 (decode least b))) ≡ false)
+          → FrontWrong least b
       fields (inl e) = inr (inl (leb-false top 1048574 e))
       fields (inr e) = aged (fails-or (leb old most) (all good (decode least b .slots) && rule2 (decode least b)) e)
 
-      to : (cleanFront least b ≡ false) ⊎ ((leb top 1048574 && (leb old most && (all good (decode least b .slots) && rule2 (decode least b)))) ≡ false) → FrontWrong least b
+      to : (cleanFront least b ≡ false)
+          ⊎ ((leb top 1048574 && (leb old most && (all good (decode least b .slots) && rule2 (decode least b)))) ≡ false)
+          → FrontWrong least b
       to (inl e) = inl e
       to (inr e) = fields (fails-or (leb top 1048574) (leb old most && (all good (decode least b .slots) && rule2 (decode least b))) e)
 
-      back : FrontWrong least b → (cleanFront least b && (leb top 1048574 && (leb old most && (all good (decode least b .slots) && rule2 (decode least b))))) ≡ false
+      back : FrontWrong least b
+          → (cleanFront least b && (leb top 1048574 && (leb old most && (all good (decode least b .slots) && rule2 (decode least b)))))
+          ≡ false
       back (inl e) = fails-left (cleanFront least b) _ e
       back (inr (inl e)) = fails-right (cleanFront least b) _ (fails-left (leb top 1048574) _ (lt-leb top 1048574 e))
-      back (inr (inr (inl e))) = fails-right (cleanFront least b) _ (fails-right (leb top 1048574) _ (fails-left (leb old most) _ (lt-leb old most e)))
+      back (inr (inr (inl e))) = fails-right (cleanFront least b) _
+          (fails-right (leb top 1048574) _ (fails-left (leb old most) _ (lt-leb old most e)))
       back (inr (inr (inr (inl e)))) =
-          fails-right (cleanFront least b) _ (fails-right (leb top 1048574) _ (fails-right (leb old most) _ (fails-left (all good (decode least b .slots)) _ (some-fails good (λ (x : Slot). good x ≡ false) (decode least b .slots) (λ x q. q) e))))
-      back (inr (inr (inr (inr e)))) = fails-right (cleanFront least b) _ (fails-right (leb top 1048574) _ (fails-right (leb old most) _ (fails-right (all good (decode least b .slots)) (rule2 (decode least b)) e)))
+          fails-right (cleanFront least b) _
+          (fails-right (leb top 1048574) _
+          (fails-right (leb old most) _
+          (fails-left (all good (decode least b .slots)) _
+          (some-fails good (λ (x : Slot). good x ≡ false) (decode least b .slots) (λ x q. q) e))))
+      back (inr (inr (inr (inr e)))) = fails-right (cleanFront least b) _
+          (fails-right (leb top 1048574) _
+          (fails-right (leb old most) _ (fails-right (all good (decode least b .slots)) (rule2 (decode least b)) e)))
 
   -- ---- one page
 
   page-clauses : (level n : ℕ) → (pageRight least b level n ≡ false) ↔ (Breaks least b n ⊎ OtherLevel least b level n)
   unfolding pageRight
-  page-clauses level n = (to (cleanPage least (pageOf least b n)) (pageOk least (last (decode least b)) (length ps) (page ps n)), back (cleanPage least (pageOf least b n)) (pageOk least (last (decode least b)) (length ps) (page ps n)))
+  page-clauses level n = (
+    to (cleanPage least (pageOf least b n)) (pageOk least (last (decode least b)) (length ps) (page ps n)),
+    back (cleanPage least (pageOf least b n)) (pageOk least (last (decode least b)) (length ps) (page ps n)),
+  )
     where
       to : (c p : Bool) → (c && (p && eqb (page ps n .level) level)) ≡ false → ((c && p) ≡ false) ⊎ (page ps n .level ≢ level)
       to true true e = inr (eqb-false (page ps n .level) level e)
@@ -147,7 +151,8 @@ module _ (least : ℕ) (b : List ℕ) where
     unfolding downRight
     to-down zero k n e = page-clauses 1 n .0 e
     to-down (suc up) k n e =
-        at (pageRight least b (suc (suc up)) n) refl (startsBy k (pairsAt v (page ps n))) refl e (λ q. to-down up k (around k (pairsAt v (page ps n)) .own .value) q)
+        at (pageRight least b (suc (suc up)) n) refl (startsBy k (pairsAt v (page ps n))) refl e
+        (λ q. to-down up k (around k (pairsAt v (page ps n)) .own .value) q)
       where
         below : ℕ
         below = around k (pairsAt v (page ps n)) .own .value
@@ -156,7 +161,8 @@ module _ (least : ℕ) (b : List ℕ) where
         here (inl q) = inl q
         here (inr q) = inr (inl q)
 
-        at : (p : Bool) → pageRight least b (suc (suc up)) n ≡ p → (t : Bool) → startsBy k (pairsAt v (page ps n)) ≡ t → (p && (t && downRight least b v up k below)) ≡ false
+        at : (p : Bool) → pageRight least b (suc (suc up)) n ≡ p → (t : Bool) → startsBy k (pairsAt v (page ps n)) ≡ t
+            → (p && (t && downRight least b v up k below)) ≡ false
             → (downRight least b v up k below ≡ false → WrongDown least b v up k below) → WrongDown least b v (suc up) k n
         at false p t q e ih = here (page-clauses (suc (suc up)) n .0 p)
         at true p false q e ih = inr (inr (inl (no-router k (suc (suc up)) n p q)))
@@ -168,9 +174,11 @@ module _ (least : ℕ) (b : List ℕ) where
     from-down (suc up) k n (inl e) = fails-left (pageRight least b (suc (suc up)) n) _ (page-clauses (suc (suc up)) n .1 (inl e))
     from-down (suc up) k n (inr (inl e)) = fails-left (pageRight least b (suc (suc up)) n) _ (page-clauses (suc (suc up)) n .1 (inr e))
     from-down (suc up) k n (inr (inr (inl e))) =
-        fails-right (pageRight least b (suc (suc up)) n) _ (fails-left (startsBy k (pairsAt v (page ps n))) _ (none-starts k (pairsAt v (page ps n)) e))
+        fails-right (pageRight least b (suc (suc up)) n) _
+        (fails-left (startsBy k (pairsAt v (page ps n))) _ (none-starts k (pairsAt v (page ps n)) e))
     from-down (suc up) k n (inr (inr (inr e))) =
-        fails-right (pageRight least b (suc (suc up)) n) _ (fails-right (startsBy k (pairsAt v (page ps n))) _ (from-down up k (around k (pairsAt v (page ps n)) .own .value) e))
+        fails-right (pageRight least b (suc (suc up)) n) _
+        (fails-right (startsBy k (pairsAt v (page ps n))) _ (from-down up k (around k (pairsAt v (page ps n)) .own .value) e))
 
     -- ---- the walk of a range
 
@@ -178,7 +186,8 @@ module _ (least : ℕ) (b : List ℕ) where
     unfolding rangeRight
     to-across zero hi at n e = page-clauses 1 n .0 e
     to-across (suc up) hi at n e =
-        by (pageRight least b (suc (suc up)) n) refl (startsBy at (pairsAt v (page ps n))) refl e (λ r q. to-across up hi (r .key) (r .value) q)
+        by (pageRight least b (suc (suc up)) n) refl (startsBy at (pairsAt v (page ps n))) refl e
+        (λ r q. to-across up hi (r .key) (r .value) q)
       where
         under : Pair → Bool
         under r = rangeRight least b v up hi (r .key) (r .value)
@@ -191,7 +200,8 @@ module _ (least : ℕ) (b : List ℕ) where
         here (inr q) = inr (inl q)
 
         by : (p : Bool) → pageRight least b (suc (suc up)) n ≡ p → (t : Bool) → startsBy at (pairsAt v (page ps n)) ≡ t
-            → (p && (t && all under (followed at hi (pairsAt v (page ps n))))) ≡ false → ((r : Pair) → under r ≡ false → wrong r) → WrongAcross least b v (suc up) hi at n
+            → (p && (t && all under (followed at hi (pairsAt v (page ps n))))) ≡ false → ((r : Pair) → under r ≡ false → wrong r)
+            → WrongAcross least b v (suc up) hi at n
         by false p t q e ih = here (page-clauses (suc (suc up)) n .0 p)
         by true p false q e ih = inr (inr (inl (no-router at (suc (suc up)) n p q)))
         by true p true q e ih = inr (inr (inr (fails-all under wrong (followed at hi (pairsAt v (page ps n))) ih e)))
@@ -200,13 +210,16 @@ module _ (least : ℕ) (b : List ℕ) where
     unfolding rangeRight
     from-across zero hi at n e = page-clauses 1 n .1 e
     from-across (suc up) hi at n (inl e) = fails-left (pageRight least b (suc (suc up)) n) _ (page-clauses (suc (suc up)) n .1 (inl e))
-    from-across (suc up) hi at n (inr (inl e)) = fails-left (pageRight least b (suc (suc up)) n) _ (page-clauses (suc (suc up)) n .1 (inr e))
+    from-across (suc up) hi at n (inr (inl e)) = fails-left (pageRight least b (suc (suc up)) n) _
+        (page-clauses (suc (suc up)) n .1 (inr e))
     from-across (suc up) hi at n (inr (inr (inl e))) =
-        fails-right (pageRight least b (suc (suc up)) n) _ (fails-left (startsBy at (pairsAt v (page ps n))) _ (none-starts at (pairsAt v (page ps n)) e))
+        fails-right (pageRight least b (suc (suc up)) n) _
+        (fails-left (startsBy at (pairsAt v (page ps n))) _ (none-starts at (pairsAt v (page ps n)) e))
     from-across (suc up) hi at n (inr (inr (inr e))) =
         fails-right (pageRight least b (suc (suc up)) n) _
         (fails-right (startsBy at (pairsAt v (page ps n))) _
-        (some-fails (λ (r : Pair). rangeRight least b v up hi (r .key) (r .value)) (λ (r : Pair). WrongAcross least b v up hi (r .key) (r .value)) (followed at hi (pairsAt v (page ps n)))
+        (some-fails (λ (r : Pair). rangeRight least b v up hi (r .key) (r .value))
+        (λ (r : Pair). WrongAcross least b v up hi (r .key) (r .value)) (followed at hi (pairsAt v (page ps n)))
         (λ r q. from-across up hi (r .key) (r .value) q) e))
 
     -- ---- from the version's root on
@@ -214,7 +227,8 @@ module _ (least : ℕ) (b : List ℕ) where
     abbrev root : ℕ
     root = rootAt (decode least b .slots) v
 
-    root-clauses : (f : ℕ → ℕ → Bool) (w : ℕ → ℕ → Type 0) → ((up n : ℕ) → (f up n ≡ false) ↔ w up n) → (fromRoot least b v f ≡ false) ↔ WrongFrom least b v w
+    root-clauses : (f : ℕ → ℕ → Bool) (w : ℕ → ℕ → Type 0) → ((up n : ℕ) → (f up n ≡ false) ↔ w up n)
+        → (fromRoot least b v f ≡ false) ↔ WrongFrom least b v w
     root-clauses f w h = (λ e. to (eqb (page ps root .level) 0) refl e, back)
       where
         to : (t : Bool) → eqb (page ps root .level) 0 ≡ t → (not t && f (heightOf ps root) root) ≡ false → WrongFrom least b v w
@@ -225,8 +239,13 @@ module _ (least : ℕ) (b : List ℕ) where
         back (inl e) = fails-left (not (eqb (page ps root .level) 0)) _ (rw (eq-eqb (page ps root .level) 0 e))
         back (inr e) = fails-right (not (eqb (page ps root .level) 0)) _ (h (heightOf ps root) root .1 e)
 
-    pub lookup-clauses : (k : ℕ) → (fromRoot least b v (λ up n. downRight least b v up k n) ≡ false) ↔ WrongFrom least b v (λ up n. WrongDown least b v up k n)
-    lookup-clauses k = root-clauses (λ up n. downRight least b v up k n) (λ up n. WrongDown least b v up k n) (λ up n. (to-down up k n, from-down up k n))
+    pub lookup-clauses : (k : ℕ) → (fromRoot least b v (λ up n. downRight least b v up k n) ≡ false)
+        ↔ WrongFrom least b v (λ up n. WrongDown least b v up k n)
+    lookup-clauses k =
+        root-clauses (λ up n. downRight least b v up k n) (λ up n. WrongDown least b v up k n) (λ up n. (to-down up k n, from-down up k n))
 
-    pub range-clauses : (lo hi : ℕ) → (fromRoot least b v (λ up n. rangeRight least b v up hi lo n) ≡ false) ↔ WrongFrom least b v (λ up n. WrongAcross least b v up hi lo n)
-    range-clauses lo hi = root-clauses (λ up n. rangeRight least b v up hi lo n) (λ up n. WrongAcross least b v up hi lo n) (λ up n. (to-across up hi lo n, from-across up hi lo n))
+    pub range-clauses : (lo hi : ℕ) → (fromRoot least b v (λ up n. rangeRight least b v up hi lo n) ≡ false)
+        ↔ WrongFrom least b v (λ up n. WrongAcross least b v up hi lo n)
+    range-clauses lo hi =
+        root-clauses (λ up n. rangeRight least b v up hi lo n) (λ up n. WrongAcross least b v up hi lo n)
+        (λ up n. (to-across up hi lo n, from-across up hi lo n))

@@ -21,10 +21,10 @@ use Rattle.model.specs.Return.{Ran, reached, stopped, lacking}
 use Rattle.model.specs.Lent.{Outcome, judgedFirst, listed, freshLent, lookupLent, rangeLent, differenceLent, lifeLent}
 use Rattle.model.specs.Any.{judgedAny, lookupAny, rangeAny, differenceAny, lifeAny}
 use Rattle.model.specs.Convert.{convertTests, convertLent}
-use Rattle.model.proofs.sound.ByRule.{Readable}
+use Rattle.model.specs.ByRule.{Readable}
+use Rattle.model.specs.Remade.{Upto}
 use Rattle.model.proofs.kept.Stops.{lacking-is}
 use Rattle.model.proofs.theorems.Editions.{Lends, accepted-lent, goes-at}
-use Rattle.model.proofs.turning.Converted.{Upto}
 use Rattle.model.proofs.turning.Converting.{TestsPassed, is-judged, source-sound, source-whole, lent-by}
 use Rattle.model.proofs.reading.Readings.{get-same, range-same, difference-same, life-same}
 use Rattle.near.proofs.laws.Same.{lookup-same, range-same as range-lent-same}
@@ -53,13 +53,15 @@ module _ (least : ℕ) (four : 4 ≤ least) (eight : least ≤ 8) (b : List ℕ)
   unfolding differenceAny differenceLent
   difference-is u v ns =
       goes-at least b l _ (λ (n : ℕ). differenceLent n b u v ns)
-      ∙ ap (λ (n : ℕ). judgedFirst n (λ j. record { number = j; count = 0; list = ns }) (listed ns (difference (decode least b) u v (length ns)))) ok
+      ∙ ap (λ (n : ℕ). judgedFirst n (λ j. record { number = j; count = 0; list = ns })
+      (listed ns (difference (decode least b) u v (length ns)))) ok
 
   life-is : (k : ℕ) (ns : List ℕ) → lifeAny b k ns ≡ listed ns (lived (decode least b) k (length ns))
   unfolding lifeAny lifeLent
   life-is k ns =
       goes-at least b l _ (λ (n : ℕ). lifeLent n b k ns)
-      ∙ ap (λ (n : ℕ). judgedFirst n (λ j. record { number = j; count = 0; list = ns }) (listed ns (lived (decode least b) k (length ns)))) ok
+      ∙ ap (λ (n : ℕ). judgedFirst n (λ j. record { number = j; count = 0; list = ns })
+      (listed ns (lived (decode least b) k (length ns)))) ok
 
   judged-is : judgedAny b .number ≡ 0
   unfolding judgedAny
@@ -100,19 +102,27 @@ module _ (b t : List ℕ) (p : TestsPassed b t) (u : Store) (r : Upto 8 (decode 
     shows = λ v h. ap (λ (x : Store). settings x v) held ∙ r .same v h;
     lookups = λ k v.
         lookup-is 8 (omega arith) (omega arith) made ok target k v ∙ ap (λ (x : Store). get x k v) held
-        ∙ get-same 4 (omega arith) (decode 4 b) (source-sound p) 8 (omega arith) u (r .is-sound) (p .shut) (r .closed) (r .current) old-is same-now k v
+        ∙ get-same 4 (omega arith) (decode 4 b) (source-sound p) 8 (omega arith) u (r .is-sound) (p .shut) (r .closed)
+        (r .current) old-is same-now k v
         ∙ sym (lookup-is 4 (omega arith) (omega arith) b (is-judged p) source k v);
     ranges = λ lo hi v ns.
         range-is 8 (omega arith) (omega arith) made ok target lo hi v ns ∙ ap (λ (x : Store). listed ns (range x lo hi v (length ns))) held
-        ∙ ap (listed ns) (range-same 4 (omega arith) (decode 4 b) (source-sound p) 8 (omega arith) u (r .is-sound) (p .shut) (r .closed) (r .current) old-is same-now lo hi v (length ns))
+        ∙ ap (listed ns)
+        (range-same 4 (omega arith) (decode 4 b) (source-sound p) 8 (omega arith) u (r .is-sound) (p .shut) (r .closed)
+        (r .current) old-is same-now lo hi v (length ns))
         ∙ sym (range-is 4 (omega arith) (omega arith) b (is-judged p) source lo hi v ns);
     differences = λ w v ns.
-        difference-is 8 (omega arith) (omega arith) made ok target w v ns ∙ ap (λ (x : Store). listed ns (difference x w v (length ns))) held
-        ∙ ap (listed ns) (difference-same 4 (omega arith) (decode 4 b) (source-sound p) 8 (omega arith) u (r .is-sound) (p .shut) (r .closed) (r .current) old-is same-now w v (length ns))
+        difference-is 8 (omega arith) (omega arith) made ok target w v ns
+        ∙ ap (λ (x : Store). listed ns (difference x w v (length ns))) held
+        ∙ ap (listed ns)
+        (difference-same 4 (omega arith) (decode 4 b) (source-sound p) 8 (omega arith) u (r .is-sound) (p .shut) (r .closed)
+        (r .current) old-is same-now w v (length ns))
         ∙ sym (difference-is 4 (omega arith) (omega arith) b (is-judged p) source w v ns);
     lives = λ k ns.
         life-is 8 (omega arith) (omega arith) made ok target k ns ∙ ap (λ (x : Store). listed ns (lived x k (length ns))) held
-        ∙ ap (listed ns) (life-same 4 (omega arith) (decode 4 b) (source-sound p) 8 (omega arith) u (r .is-sound) (p .shut) (r .closed) (r .current) old-is same-now k (length ns))
+        ∙ ap (listed ns)
+        (life-same 4 (omega arith) (decode 4 b) (source-sound p) 8 (omega arith) u (r .is-sound) (p .shut) (r .closed)
+        (r .current) old-is same-now k (length ns))
         ∙ sym (life-is 4 (omega arith) (omega arith) b (is-judged p) source k ns);
   }
 
@@ -127,7 +137,8 @@ none n l e = at (lacking-is n l)
 
 converted-done : (b t : List ℕ) → convertLent b t .number ≡ 0 → Converted b (convertLent b t .store)
 converted-done b t =
-    lent-by (λ (o : Outcome). o .number ≡ 0 → Converted b (o .store)) b t (λ z e. absurd (z e)) (λ z p u r q e. whole b t p u r) (λ z p n u l q e. absurd (none n l e))
+    lent-by (λ (o : Outcome). o .number ≡ 0 → Converted b (o .store)) b t (λ z e. absurd (z e)) (λ z p u r q e. whole b t p u r)
+    (λ z p n u l q e. absurd (none n l e))
 
 fresh-is : (b t : List ℕ) → TestsPassed b t → Emptied t (encode 8 (fresh (sizeOf 8 t)))
 unfolding freshLent
@@ -144,7 +155,10 @@ early-low false false false false false true = omega arith
 early-low false false false false false false = omega arith
 
 early-few : (b t : List ℕ) → Lacks (firstOf (convertTests b t)) → ⊥
-early-few b t z = at (firstOf (convertTests b t)) (early-low (ltb (length b) 5) (not (magicOk b)) (not (editionOk 4 b)) (not (lengthOk 4 b) || not (lengthOk 8 t)) (not (isSound 4 b)) (decode 4 b .opened)) z
+early-few b t z =
+    at (firstOf (convertTests b t))
+    (early-low (ltb (length b) 5) (not (magicOk b)) (not (editionOk 4 b)) (not (lengthOk 4 b) || not (lengthOk 8 t)) (not (isSound 4 b))
+    (decode 4 b .opened)) z
   where
     at : (n : ℕ) → n ≤ 8 → Lacks n → ⊥
     at n h (inl e) = omega (arith, h, e)
@@ -152,7 +166,8 @@ early-few b t z = at (firstOf (convertTests b t)) (early-low (ltb (length b) 5) 
 
 converted-lacking : (b t : List ℕ) → Lacks (convertLent b t .number) → Emptied t (convertLent b t .store)
 converted-lacking b t =
-    lent-by (λ (o : Outcome). Lacks (o .number) → Emptied t (o .store)) b t (λ z e. absurd (early-few b t e)) (λ z p u r q e. absurd (zero-few e)) (λ z p n u l q e. fresh-is b t p)
+    lent-by (λ (o : Outcome). Lacks (o .number) → Emptied t (o .store)) b t (λ z e. absurd (early-few b t e))
+    (λ z p u r q e. absurd (zero-few e)) (λ z p n u l q e. fresh-is b t p)
   where
     zero-few : Lacks 0 → ⊥
     zero-few (inl e) = omega (arith, e)
@@ -160,7 +175,8 @@ converted-lacking b t =
 
 converted-untouched : (b t : List ℕ) → convertLent b t .number ≢ 0 → (Lacks (convertLent b t .number) → ⊥) → convertLent b t .store ≡ t
 converted-untouched b t =
-    lent-by (λ (o : Outcome). o .number ≢ 0 → (Lacks (o .number) → ⊥) → o .store ≡ t) b t (λ z n l. refl) (λ z p u r q n l. absurd (n refl)) (λ z p n u k q m l. absurd (l (lacking-is n k)))
+    lent-by (λ (o : Outcome). o .number ≢ 0 → (Lacks (o .number) → ⊥) → o .store ≡ t) b t (λ z n l. refl) (λ z p u r q n l. absurd (n refl))
+    (λ z p n u k q m l. absurd (l (lacking-is n k)))
 
 -- ---- the number
 
@@ -174,16 +190,23 @@ apart b t n u w l e f = none n l (sym (ap number-of (sym e ∙ f)))
 -- a replay that is stopped lacks a page or a slot
 numbers-are : (b t : List ℕ) → Numbers b t
 numbers-are b t = record {
-  early = lent-by (λ (o : Outcome). firstOf (convertTests b t) ≢ 0 → o .number ≡ firstOf (convertTests b t)) b t (λ z y. refl) (λ z p u r q y. absurd (y z)) (λ z p n u l q y. absurd (y z));
-  else = lent-by (λ (o : Outcome). firstOf (convertTests b t) ≡ 0 → (o .number ≡ 0) ⊎ ((o .number ≡ 12) ⊎ (o .number ≡ 13))) b t (λ z y. absurd (z y)) (λ z p u r q y. inl refl)
+  early = lent-by (λ (o : Outcome). firstOf (convertTests b t) ≢ 0 → o .number ≡ firstOf (convertTests b t)) b t (λ z y. refl)
+      (λ z p u r q y. absurd (y z)) (λ z p n u l q y. absurd (y z));
+  else = lent-by (λ (o : Outcome). firstOf (convertTests b t) ≡ 0 → (o .number ≡ 0) ⊎ ((o .number ≡ 12) ⊎ (o .number ≡ 13))) b t
+      (λ z y. absurd (z y)) (λ z p u r q y. inl refl)
       (λ z p n u l q y. inr (lacking-is n l));
-  done = lent-by (λ (o : Outcome). firstOf (convertTests b t) ≡ 0 → o .number ≡ 0 → (u : Store) × (replayOf b t ≡ reached u)) b t (λ z y. absurd (z y)) (λ z p u r q y e. (u, q))
+  done = lent-by (λ (o : Outcome). firstOf (convertTests b t) ≡ 0 → o .number ≡ 0 → (u : Store) × (replayOf b t ≡ reached u)) b t
+      (λ z y. absurd (z y)) (λ z p u r q y e. (u, q))
       (λ z p n u l q y e. absurd (none n l e));
-  goes = lent-by (λ (o : Outcome). firstOf (convertTests b t) ≡ 0 → (u : Store) → replayOf b t ≡ reached u → o .number ≡ 0) b t (λ z y. absurd (z y)) (λ z p u r q y w e. refl)
+  goes = lent-by (λ (o : Outcome). firstOf (convertTests b t) ≡ 0 → (u : Store) → replayOf b t ≡ reached u → o .number ≡ 0) b t
+      (λ z y. absurd (z y)) (λ z p u r q y w e. refl)
       (λ z p n u l q y w e. absurd (apart b t n w u l e q));
-  lacks = lent-by (λ (o : Outcome). firstOf (convertTests b t) ≡ 0 → (n : ℕ) → n ≢ 0 → o .number ≡ n → (u : Store) × (replayOf b t ≡ stopped n u)) b t (λ z y. absurd (z y))
+  lacks = lent-by
+      (λ (o : Outcome). firstOf (convertTests b t) ≡ 0 → (n : ℕ) → n ≢ 0 → o .number ≡ n → (u : Store) × (replayOf b t ≡ stopped n u)) b t
+      (λ z y. absurd (z y))
       (λ z p u r q y n m e. absurd (m (sym e))) (λ z p n u l q y m d e. (u, subst (λ (k : ℕ). replayOf b t ≡ stopped k u) e q));
-  stops = lent-by (λ (o : Outcome). firstOf (convertTests b t) ≡ 0 → (n : ℕ) (u : Store) → replayOf b t ≡ stopped n u → o .number ≡ n) b t (λ z y. absurd (z y))
+  stops = lent-by (λ (o : Outcome). firstOf (convertTests b t) ≡ 0 → (n : ℕ) (u : Store) → replayOf b t ≡ stopped n u → o .number ≡ n) b t
+      (λ z y. absurd (z y))
       (λ z p u r q y n w e. ap number-of (sym q ∙ e)) (λ z p m u l q y n w e. ap number-of (sym q ∙ e));
 }
 

@@ -25,14 +25,16 @@ module _ (b : List ℕ) where
 
   -- What is said of the three tests, of the edition's least and of a call's number: shown for each early number, and for the call by the
   -- limits of an edition where the tests find one, it holds of the call for both editions.
-  pub by-tests : (N : Bool → Bool → Bool → ℕ → ℕ → Type 0) (call : ℕ → ℕ) → ((m e : Bool) (l : ℕ) → N false m e l 1) → ((e : Bool) (l : ℕ) → N true false e l 2)
+  pub by-tests : (N : Bool → Bool → Bool → ℕ → ℕ → Type 0) (call : ℕ → ℕ) → ((m e : Bool) (l : ℕ) → N false m e l 1)
+      → ((e : Bool) (l : ℕ) → N true false e l 2)
       → ((l : ℕ) → N true true false l 3) → ((l : ℕ) → magicOk b ≡ true → editionOk l b ≡ true → N true true true l (call l))
       → N (leb 5 (length b)) (magicOk b) (editionKnown b) (leastOf b) (byEdition b (λ (n : ℕ). n) call)
   unfolding byEdition
   by-tests N call one two three by = at (ltb (length b) 5) refl (magicOk b) refl (editionOk 4 b) refl (editionOk 8 b) refl
     where
       at : (p : Bool) → ltb (length b) 5 ≡ p → (q : Bool) → magicOk b ≡ q → (r : Bool) → editionOk 4 b ≡ r → (t : Bool) → editionOk 8 b ≡ t
-          → N (leb 5 (length b)) q (r || t) (pick p 4 (pick q (pick r 4 (pick t 8 4)) 4)) (pick p 1 (pick q (pick r (call 4) (pick t (call 8) 3)) 2))
+          → N (leb 5 (length b)) q (r || t) (pick p 4 (pick q (pick r 4 (pick t 8 4)) 4))
+          (pick p 1 (pick q (pick r (call 4) (pick t (call 8) 3)) 2))
       at true p q m r e t f = rw (enough true p) (one q (r || t) 4)
       at false p false m r e t f = rw (enough false p) (two (r || t) 4)
       at false p true m true e t f = rw (enough false p) (by 4 m e)
@@ -65,18 +67,21 @@ module _ (b : List ℕ) where
       at false true false false = omega arith
 
   -- where a call gives another number, the edition is known
-  pub past-early : (c : Asked) → makes c ≡ false → (ns : List ℕ) → (ended c b ns .number ≡ 0) ⊎ (4 ≤ ended c b ns .number) → lentNumber b ≡ 0
+  pub past-early : (c : Asked) → makes c ≡ false → (ns : List ℕ) → (ended c b ns .number ≡ 0) ⊎ (4 ≤ ended c b ns .number)
+      → lentNumber b ≡ 0
   past-early c m ns h = at (lentNumber b) refl h
     where
       at : (n : ℕ) → lentNumber b ≡ n → (ended c b ns .number ≡ 0) ⊎ (4 ≤ ended c b ns .number) → lentNumber b ≡ 0
       at zero z h = z
       at (suc n) z (inl h) = let e = ended-refuses b ns c m (λ (q : lentNumber b ≡ 0). omega arith) .number in absurd (omega arith)
-      at (suc n) z (inr h) = let e = ended-refuses b ns c m (λ (q : lentNumber b ≡ 0). omega arith) .number in absurd (omega (arith, early-low))
+      at (suc n) z (inr h) =
+          let e = ended-refuses b ns c m (λ (q : lentNumber b ≡ 0). omega arith) .number in absurd (omega (arith, early-low))
 
   -- what a call by the limits of the edition gives only on bytes that are accepted by them
   pub lifted : (c : Asked) → makes c ≡ false → (ns : List ℕ) (n : ℕ) → 4 ≤ n → (X : Type 0)
       → endedBy (leastOf b) c b ns .number ≡ n ↔ ((judged (leastOf b) b .number ≡ 0) × X) → ended c b ns .number ≡ n ↔ (Accepts b × X)
-  lifted c m ns n low X h = (to, λ x. ap (λ (e : Ended). e .number) (ended-goes b ns c m (known b (x .0))) ∙ h .1 (judged-by b (x .0), x .1))
+  lifted c m ns n low X h =
+      (to, λ x. ap (λ (e : Ended). e .number) (ended-goes b ns c m (known b (x .0))) ∙ h .1 (judged-by b (x .0), x .1))
     where
       to : ended c b ns .number ≡ n → Accepts b × X
       to e =

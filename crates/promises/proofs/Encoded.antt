@@ -11,9 +11,10 @@ use Rattle.model.specs.Layout.{sizeOf, encode, decode}
 use Rattle.model.specs.Clean.{cleanFront, cleanPages, clean}
 use Rattle.model.specs.Sound.{sound, rule1}
 use Rattle.model.specs.Editions.{leastOf}
+use Rattle.model.specs.ByRule.{Sound}
 use Rattle.model.proofs.lists.Lists.{both-true}
 use Rattle.model.proofs.lists.Members.{holds-true, true-holds}
-use Rattle.model.proofs.sound.ByRule.{Sound, from-tests}
+use Rattle.model.proofs.sound.ByRule.{from-tests}
 use Rattle.model.proofs.sound.Judging.{Accepted}
 use Rattle.model.proofs.theorems.Editions.{edition-four, edition-eight}
 use Rattle.store.proofs.laws.Exactly.{encode-decode}
@@ -23,7 +24,8 @@ use Rattle.written.proofs.laws.Encoded.{encoded-accepted, encoded-are-bytes, en
 use Rattle.promises.specs.Accepts.{Accepts, storeOf, OfEdition, Written, SoundBytes}
 use Rattle.promises.proofs.Known.{four, eight, taken, of-edition}
 
-clean-is : (least : ℕ) (b : List ℕ) → (cleanFront least b && (cleanPages least b 5 (sizeOf least b - 5) && rule1 least (decode least b))) ≡ clean least b
+clean-is : (least : ℕ) (b : List ℕ) → (cleanFront least b && (cleanPages least b 5 (sizeOf least b - 5) && rule1 least (decode least b)))
+    ≡ clean least b
 unfolding clean
 clean-is least b = refl
 
@@ -46,9 +48,12 @@ pub accepted : (b : List ℕ) → Bytes b → Accepts b → SoundBytes b
 accepted b bytes ok =
     let l : ℕ = leastOf b in
     let a : Accepted (leastOf b) b = taken b ok in
-    let (front, rest) = both-true (cleanFront l b) (cleanPages l b 5 (sizeOf l b - 5) && rule1 l (storeOf b)) (clean-is l b ∙ a .is-clean) in
+    let (front, rest) = both-true (cleanFront l b) (cleanPages l b 5 (sizeOf l b - 5) && rule1 l (storeOf b))
+    (clean-is l b ∙ a .is-clean) in
     let (pages, one) = both-true (cleanPages l b 5 (sizeOf l b - 5)) (rule1 l (storeOf b)) rest in
     record {
       is-sound = true-holds (sound l (storeOf b)) (a .is-sound);
-      same = encode-decode l (four b) (eight b) b (sizeOf l b) (exactly l (eight b) b bytes (whole-length l b (a .length-ok)) (counted l (eight b) b a) (a .magic-ok) (a .edition-ok) front pages);
+      same = encode-decode l (four b) (eight b) b (sizeOf l b)
+          (exactly l (eight b) b bytes (whole-length l b (a .length-ok)) (counted l (eight b) b a) (a .magic-ok)
+          (a .edition-ok) front pages);
     }

@@ -30,13 +30,15 @@ use Rattle.model.specs.Ended.{Asked, toOpen, toInsert, toLookup, toRange, Ended
 use Rattle.model.specs.Editions.{leastOf}
 use Rattle.model.proofs.sound.ByRule.{old-current}
 use Rattle.model.proofs.lists.Members.{not-both, in-getD}
-use Rattle.model.proofs.sound.Ready.{numbered-by, is-none}
+use Rattle.model.proofs.lists.Bools.{is-none}
+use Rattle.model.proofs.sound.Ready.{numbered-by}
 use Rattle.promises.specs.Accepts.{Accepts, storeOf}
 use Rattle.promises.specs.Runs.{Turn}
 use Rattle.promises.specs.Beside.{Beside, whenDone, onward, fromLent}
 use Rattle.promises.specs.Answers.{lookedIn, aliveIn, Gives}
 use Rattle.promises.specs.Replayed.{madeOn}
-use Rattle.promises.specs.Fakes.{Implementation, Honest, RefusesAll, OneAnswer, WritesNothing, SplitsAtOpen, Hides, Invents, FakesStopped}
+use Rattle.promises.specs.Fakes.{Implementation, Honest, RefusesAll, OneAnswer, WritesNothing, SplitsAtOpen, Hides, Invents}
+use Rattle.promises.specs.Fakes.{FakesStopped}
 use Rattle.promises.proofs.Judges.{zero-accepts}
 use Rattle.promises.proofs.Lending.{change-leaves}
 use Rattle.promises.proofs.Agreed.{Agreed, one-turn, lent-agreed}
@@ -72,7 +74,8 @@ module _ (f : Implementation) (honest : Honest f) where
   nothing same =
       let e : madeOn 16 twentyOne .store ≡ before = sym (store-is (toInsert 21 121) before []) ∙ same 21 121 before [] in
       no-keys (page (storeOf before .pages) 5 .entries)
-      (ap (λ (b : List ℕ). length (page (storeOf b .pages) 5 .entries)) (sym e) ∙ eqb-true _ 0 (fact-in (place 1) (in-getD blank table 1 (lit≤ tt)) (holding 5 0) (inr (inr (inr (inr (inr (inr (inl refl)))))))))
+      (ap (λ (b : List ℕ). length (page (storeOf b .pages) 5 .entries)) (sym e)
+      ∙ eqb-true _ 0 (fact-in (place 1) (in-getD blank table 1 (lit≤ tt)) (holding 5 0) (inr (inr (inr (inr (inr (inr (inl refl)))))))))
       (fact-in (place 0) (in-getD blank table 0 (lit≤ tt)) (keys 5 (count 1 20)) (inr (inl refl)))
 
   -- ---- P9: one key, two answers
@@ -82,7 +85,8 @@ module _ (f : Implementation) (honest : Honest f) where
       let b : List ℕ = madeOn 16 (reopened twentyOne ++ deleteFrom 12 7) .store in
       let one = ap (λ (x : Ended). x .results) (table-lent .ninth [] .0) in
       let two = ap (λ (x : Ended). x .results) (table-lent .ninth [] .1) in
-      let e : _≡_ {A = List ℕ} (1 ∷ 115 ∷ []) (0 ∷ 0 ∷ []) = sym one ∙ sym (results-are (toLookup 15 1) b []) ∙ same 15 1 15 2 b [] ∙ results-are (toLookup 15 2) b [] ∙ two in
+      let e : _≡_ {A = List ℕ} (1 ∷ 115 ∷ []) (0 ∷ 0 ∷ []) = sym one ∙ sym (results-are (toLookup 15 1) b []) ∙ same 15 1 15 2 b []
+      ∙ results-are (toLookup 15 2) b [] ∙ two in
       let z : _≡_ {A = ℕ} 0 1 = cc in
       omega arith
 
@@ -92,7 +96,8 @@ module _ (f : Implementation) (honest : Honest f) where
   unfolding Calls.begin
   begin-pages s =
       numbered-by (λ (r : Result). after s (gave r) .store .pages ≡ s .pages) (rule 8 (s .opened) ∷ rule 9 (leb 1048574 (s .current)) ∷ [])
-      (done (record { current = s .current; opened = true; oldest = s .oldest; slots = s .slots; pages = s .pages })) (λ n. refl) (λ x. refl)
+      (done (record { current = s .current; opened = true; oldest = s .oldest; slots = s .slots; pages = s .pages })) (λ n. refl)
+      (λ x. refl)
 
   opens : SplitsAtOpen f → ⊥
   opens x =
@@ -121,7 +126,9 @@ module _ (f : Implementation) (honest : Honest f) where
       let a = answers (fromLent b) (lent-agreed b (x .accepted)) .range (x .low) (x .high) (x .version) (x .list) in
       x .invented
       (results-are c b (x .list) ∙ ap (λ (e : Ended). e .results) a
-      ∙ ap (λ (n : ℕ). n ∷ []) (ranged-count _ (length (x .list)) (between (x .low) (x .high) (settings (storeOf b) (x .version))) (ap (λ (e : Ended). e .number) (sym a) ∙ zero)))
+      ∙ ap (λ (n : ℕ). n ∷ [])
+      (ranged-count _ (length (x .list)) (between (x .low) (x .high) (settings (storeOf b) (x .version)))
+      (ap (λ (e : Ended). e .number) (sym a) ∙ zero)))
 
   -- ---- an insert shows at once
 
@@ -129,32 +136,38 @@ module _ (f : Implementation) (honest : Honest f) where
   entered k x [] h = ap (λ (b : Bool). pick b (some x) none) (eq-eqb k k refl)
   entered k x (u ∷ us) h = at (ltb k (u .key)) (eqb (u .key) k) refl h (entered k x us)
     where
-      at : (b c : Bool) → eqb (u .key) k ≡ c → pick c (some (u .value)) (find k us) ≡ none → (find k us ≡ none → find k (enterPair (pair k x) us) ≡ some x)
+      at : (b c : Bool) → eqb (u .key) k ≡ c → pick c (some (u .value)) (find k us) ≡ none
+          → (find k us ≡ none → find k (enterPair (pair k x) us) ≡ some x)
           → find k (placed b (pair k x) u us (enterPair (pair k x) us)) ≡ some x
       at true c e h ih = ap (λ (q : Bool). pick q (some x) (find k (u ∷ us))) (eq-eqb k k refl)
       at false true e h ih = let z : _≡_ {A = ℕ} 0 1 = cc in absurd (omega arith)
       at false false e h ih = ap (λ (q : Bool). pick q (some (u .value)) (find k (enterPair (pair k x) us))) e ∙ ih h
 
   -- none of insert's tests held
-  clear : (k : ℕ) (o q : Bool) (n : ℕ) → Gives (firstOf (insertTests k o q)) n → n ≡ 0 → (leb keyLimit k ≡ false) × ((o ≡ true) × (q ≡ false))
+  clear : (k : ℕ) (o q : Bool) (n : ℕ) → Gives (firstOf (insertTests k o q)) n → n ≡ 0
+      → (leb keyLimit k ≡ false) × ((o ≡ true) × (q ≡ false))
   clear k o q n g e = at (leb benchLimit k) refl o q g
     where
-      at : (p : Bool) → leb benchLimit k ≡ p → (o q : Bool) → Gives (firstOf (rule 5 p ∷ rule 7 (not o) ∷ rule 10 q ∷ [])) n → (leb keyLimit k ≡ false) × ((o ≡ true) × (q ≡ false))
+      at : (p : Bool) → leb benchLimit k ≡ p → (o q : Bool) → Gives (firstOf (rule 5 p ∷ rule 7 (not o) ∷ rule 10 q ∷ [])) n
+          → (leb keyLimit k ≡ false) × ((o ≡ true) × (q ≡ false))
       at true f o q g = absurd (omega arith)
       at false f false q g = absurd (omega arith)
       at false f true true g = absurd (omega arith)
       at false f true false g = (lt-leb keyLimit k (omega (arith, leb-false benchLimit k f)), (refl, refl))
 
   -- the machine after it
-  found : (k v : ℕ) (m : Machine) → m .oldest ≤ m .current → leb keyLimit k ≡ false → m .opened ≡ true → isSome (find k (m .shows (suc (m .current)))) ≡ false
+  found : (k v : ℕ) (m : Machine) → m .oldest ≤ m .current → leb keyLimit k ≡ false → m .opened ≡ true
+      → isSome (find k (m .shows (suc (m .current)))) ≡ false
       → lookedIn (step m (inserts k v)) k (suc (m .current)) ≡ Value v
   found k v m old low o absent =
       let c : ℕ = m .current in
       let us : List Pair = m .shows (suc (m .current)) in
       let readable : (ltb (lastOf (m .opened) (m .current)) (suc (m .current)) || ltb (suc (m .current)) (m .oldest)) ≡ false =
       rw (o, le-ltb (suc (m .current)) (suc (m .current)) (omega arith)) (le-ltb (suc (m .current)) (m .oldest) (omega arith)) in
-      let here : put (suc c) (enterPair (pair k v) us) (m .shows) (suc c) ≡ enterPair (pair k v) us = ap (λ (q : Bool). pick q (enterPair (pair k v) us) us) (eq-eqb (suc (m .current)) (suc (m .current)) refl) in
-      ap₂ (λ (p q : Bool). lookedBy (firstOf (rule 5 p ∷ rule 6 q ∷ [])) (find k (put (suc (m .current)) (enterPair (pair k v) (m .shows (suc (m .current)))) (m .shows) (suc (m .current))))) low readable
+      let here : put (suc c) (enterPair (pair k v) us) (m .shows) (suc c) ≡ enterPair (pair k v) us
+      = ap (λ (q : Bool). pick q (enterPair (pair k v) us) us) (eq-eqb (suc (m .current)) (suc (m .current)) refl) in
+      ap₂ (λ (p q : Bool). lookedBy (firstOf (rule 5 p ∷ rule 6 q ∷ []))
+      (find k (put (suc (m .current)) (enterPair (pair k v) (m .shows (suc (m .current)))) (m .shows) (suc (m .current))))) low readable
       ∙ ap (lookedBy 0) (ap (find k) here ∙ entered k v us (is-none (find k us) absent))
 
   insert-shows : (k v : ℕ) (b ns ms : List ℕ) → v < 4294967296 → ended (toInsert k v) b ns .number ≡ 0
@@ -164,18 +177,22 @@ module _ (f : Implementation) (honest : Honest f) where
       let x : Beside = fromLent b in
       let t : Turn = record { call = toInsert k v; list = ns } in
       let a : Agreed (fromLent b) = lent-agreed b ok in
-      let (low, (o, absent)) = clear k (storeOf b .opened) (aliveIn (fromLent b .machine) k) (ended (toInsert k v) b ns .number) (answers (fromLent b) a .inserts k v ns) e in
+      let (low, (o, absent)) = clear k (storeOf b .opened) (aliveIn (fromLent b .machine) k) (ended (toInsert k v) b ns .number)
+      (answers (fromLent b) a .inserts k v ns) e in
       let after-it = answers (onward x t) (one-turn x a t (lt-ltb v 4294967296 small)) .lookup k (suc (storeOf b .current)) ms in
       ap (λ (y : Ended). y .results) after-it
-      ∙ ap (λ (n : ℕ). ofLooked [] ms (lookedIn (whenDone n (step (fromLent b .machine) (inserts k v)) (fromLent b .machine)) k (suc (storeOf b .current))) .results) e
-      ∙ ap (λ (y : Looked). ofLooked [] ms y .results) (found k v (fromLent b .machine) (old-current (leastOf b) (storeOf b) (a .agrees .is-sound .old-low)) low o absent)
+      ∙ ap (λ (n : ℕ). ofLooked [] ms
+      (lookedIn (whenDone n (step (fromLent b .machine) (inserts k v)) (fromLent b .machine)) k (suc (storeOf b .current))) .results) e
+      ∙ ap (λ (y : Looked). ofLooked [] ms y .results)
+      (found k v (fromLent b .machine) (old-current (leastOf b) (storeOf b) (a .agrees .is-sound .old-low)) low o absent)
 
   hides : Hides f → ⊥
   hides x =
       let put-in : Asked = toInsert (x .key) (x .value) in
       let ask : Asked = toLookup (x .key) (suc (storeOf (x .bytes) .current)) in
       x .hidden
-      (ap (λ (b : List ℕ). f ask b (x .list) .results) (store-is put-in (x .bytes) (x .list)) ∙ results-are ask (ended put-in (x .bytes) (x .list) .store) (x .list)
+      (ap (λ (b : List ℕ). f ask b (x .list) .results) (store-is put-in (x .bytes) (x .list))
+      ∙ results-are ask (ended put-in (x .bytes) (x .list) .store) (x .list)
       ∙ insert-shows (x .key) (x .value) (x .bytes) (x .list) (x .list) (x .small) (number-is put-in (x .bytes) (x .list) (x .given)))
 
 pub fakes-stopped : FakesStopped

@@ -14,13 +14,15 @@ use Rattle.model.specs.Store.{Store, next}
 use Rattle.model.specs.Walk.{lookup, settings}
 use Rattle.model.specs.Climb.{Result, done, refused, update}
 use Rattle.model.specs.Calls
-use Rattle.model.specs.Calls.{Rule, rule, numbered, firstOf, isSome, beyond, insertTests, deleteTests, pruneTests, insert, delete, begin, committed, unchanged, commit, abandon, abandoned, prune, pruned}
+use Rattle.model.specs.Calls.{Rule, rule, numbered, firstOf, isSome, beyond, insertTests, deleteTests, pruneTests, insert, delete, begin}
+use Rattle.model.specs.Calls.{committed, unchanged, commit, abandon, abandoned, prune, pruned}
 use Rattle.model.specs.Needs.{inserting, deleting}
 use Rattle.model.specs.Differ.{differ}
 use Rattle.model.specs.Return
-use Rattle.model.specs.Return.{goes, comes, setTests, endOne, setOne, Ran, reached, stopped, orStopped, through, andOn, carried, Came, gave, gaveUp, lacking, orAbandoned, returnTests, unless, returned}
+use Rattle.model.specs.Return.{goes, comes, setTests, endOne, setOne, Ran, reached, stopped, orStopped, through, andOn, carried, Came}
+use Rattle.model.specs.Return.{gave, gaveUp, lacking, orAbandoned, returnTests, unless, returned}
 use Rattle.model.specs.Histories.{Call, begins, commits, abandons, inserts, deletes, returns, prunes, callBy}
-use Rattle.model.proofs.sound.ByRule.{Sound, Committed}
+use Rattle.model.specs.ByRule.{Sound, Committed}
 use Rattle.model.proofs.kept.Stops.{lacking-is, Ends, update-ends}
 use Rattle.model.proofs.turning.Returned.{returned-by}
 use Rattle.promises.specs.Runs.{changing, givesUp}
@@ -91,7 +93,8 @@ abbrev RanHigh : Ran → Type 0
 RanHigh (reached t) = Unit {0}
 RanHigh (stopped n t) = 5 ≤ n
 
-through-high : (one : Store → Delta → Result) → ((s : Store) (d : Delta) → High (one s d)) → (ds : List Delta) (s : Store) → RanHigh (through one ds s)
+through-high : (one : Store → Delta → Result) → ((s : Store) (d : Delta) → High (one s d)) → (ds : List Delta) (s : Store)
+    → RanHigh (through one ds s)
 unfolding Return.through
 through-high one h [] s = tt
 through-high one h (d ∷ ds) s = at (one s d) (h s d) (λ t. through-high one h ds t)
@@ -123,19 +126,22 @@ module _ (least : ℕ) where
   end-high : (s : Store) (d : Delta) → High (endOne least s d)
   unfolding Calls.delete
   end-high s d =
-      chain-high (deleteTests (d .key) (s .opened) (isSome (lookup s (d .key) (next s)))) (update least s (d .key) (deleting (d .key))) (omega arith, (omega arith, (omega arith, tt)))
+      chain-high (deleteTests (d .key) (s .opened) (isSome (lookup s (d .key) (next s)))) (update least s (d .key) (deleting (d .key)))
+      (omega arith, (omega arith, (omega arith, tt)))
       (ends-high (update least s (d .key) (deleting (d .key))) (update-ends least s (d .key) (deleting (d .key))))
 
   set-high : (s : Store) (d : Delta) → High (setOne least s d)
   unfolding Return.setOne
   set-high s d =
-      chain-high (setTests (d .key) (s .opened) (isSome (lookup s (d .key) (next s)))) (update least s (d .key) (inserting (d .key) (d .new))) (omega arith, (omega arith, (omega arith, tt)))
+      chain-high (setTests (d .key) (s .opened) (isSome (lookup s (d .key) (next s))))
+      (update least s (d .key) (inserting (d .key) (d .new))) (omega arith, (omega arith, (omega arith, tt)))
       (ends-high (update least s (d .key) (inserting (d .key) (d .new))) (update-ends least s (d .key) (inserting (d .key) (d .new))))
 
   run-high : (ds : List Delta) (s : Store) → RanHigh (carried least ds s)
   unfolding Return.carried
   run-high ds s =
-      both-high (through (setOne least) (those comes ds)) (through (endOne least) (those goes ds) s) (through-high (endOne least) end-high (those goes ds) s)
+      both-high (through (setOne least) (those comes ds)) (through (endOne least) (those goes ds) s)
+      (through-high (endOne least) end-high (those goes ds) s)
       (λ t. through-high (setOne least) set-high (those comes ds) t)
 
 module _ (least : ℕ) (s : Store) where
@@ -155,9 +161,11 @@ module _ (least : ℕ) (s : Store) where
       (ends-high (update least s k (deleting k)) (update-ends least s k (deleting k)))
   call-high (returns v) z =
       let run = carried least (differ (settings s (next s)) (settings s v)) s in
-      tested-high (beyond (s .current) (s .oldest) v) (not (s .opened)) (orAbandoned run) (given-high run (run-high least (differ (settings s (next s)) (settings s v)) s))
+      tested-high (beyond (s .current) (s .oldest) v) (not (s .opened)) (orAbandoned run)
+      (given-high run (run-high least (differ (settings s (next s)) (settings s v)) s))
   call-high (prunes v) z =
-      subst (λ (x : Bool). High (numbered (rule 3 x ∷ pruneTests (s .oldest) (s .current) (s .opened) v) (done (pruned s v)))) (sym (not-true (leb least 4) z))
+      subst (λ (x : Bool). High (numbered (rule 3 x ∷ pruneTests (s .oldest) (s .current) (s .opened) v) (done (pruned s v))))
+      (sym (not-true (leb least 4) z))
       (chain-high (pruneTests (s .oldest) (s .current) (s .opened) v) (done (pruned s v)) (omega arith, (omega arith, tt)) tt)
 
   -- a refusal is no 0, pruning edition 1 included
@@ -192,7 +200,8 @@ run-stops v (stopped n t) = at (lacking n) refl
     at true e = e
     at false e = e
 
-tested-stops : (v : ℕ) (x y : Bool) (c : Came) → Stopping (returns v) c → Stopping (returns v) (unless (firstOf (Calls.rule 6 x ∷ Calls.rule 7 y ∷ [])) c)
+tested-stops : (v : ℕ) (x y : Bool) (c : Came) → Stopping (returns v) c
+    → Stopping (returns v) (unless (firstOf (Calls.rule 6 x ∷ Calls.rule 7 y ∷ [])) c)
 tested-stops v true y c h = refl
 tested-stops v false true c h = refl
 tested-stops v false false c h = h
@@ -220,7 +229,8 @@ chain-first [] t = refl
 chain-first (x ∷ xs) t = at (x .holds) (chain-first xs t)
   where
     at : (b : Bool) → numberOf (numbered xs (done t)) ≡ firstOf xs
-        → numberOf (elim b as (λ z. Result) [ true ↦ refused (x .number) | false ↦ numbered xs (done t) ]) ≡ elim b as (λ z. ℕ) [ true ↦ x .number | false ↦ firstOf xs ]
+        → numberOf (elim b as (λ z. Result) [ true ↦ refused (x .number) | false ↦ numbered xs (done t) ])
+        ≡ elim b as (λ z. ℕ) [ true ↦ x .number | false ↦ firstOf xs ]
     at true ih = refl
     at false ih = ih
 
@@ -237,14 +247,17 @@ chain-gives [] r a h = ends-gives r h
 chain-gives (x ∷ xs) r a h = at (x .holds) (chain-gives xs r (a .1) h)
   where
     at : (b : Bool) → Gives (firstOf xs) (numberOf (numbered xs r))
-        → Gives (elim b as (λ z. ℕ) [ true ↦ x .number | false ↦ firstOf xs ]) (numberOf (elim b as (λ z. Result) [ true ↦ refused (x .number) | false ↦ numbered xs r ]))
+        → Gives (elim b as (λ z. ℕ) [ true ↦ x .number | false ↦ firstOf xs ])
+        (numberOf (elim b as (λ z. Result) [ true ↦ refused (x .number) | false ↦ numbered xs r ]))
     at true ih = itself (x .number) (a .0)
     at false ih = ih
 
 module _ (least : ℕ) (s : Store) where
   pub begin-number : numberOf (begin s) ≡ firstOf (openTests (s .opened) (s .current))
   unfolding Calls.begin
-  begin-number = chain-first (openTests (s .opened) (s .current)) (record { current = s .current; opened = true; oldest = s .oldest; slots = s .slots; pages = s .pages })
+  begin-number =
+      chain-first (openTests (s .opened) (s .current))
+      (record { current = s .current; opened = true; oldest = s .oldest; slots = s .slots; pages = s .pages })
 
   pub commit-number : numberOf (commit s) ≡ firstOf (commitTests (s .opened) (unchanged s))
   unfolding Calls.commit
@@ -260,27 +273,33 @@ module _ (least : ℕ) (s : Store) where
   unfolding Calls.abandon
   abandon-number = chain-first (endTests (s .opened)) (abandoned s)
 
-  pub prune-number : (v : ℕ) → numberOf (prune least s v) ≡ firstOf (rule 3 (leb least 4) ∷ pruneTests (s .oldest) (s .current) (s .opened) v)
+  pub prune-number : (v : ℕ) → numberOf (prune least s v)
+      ≡ firstOf (rule 3 (leb least 4) ∷ pruneTests (s .oldest) (s .current) (s .opened) v)
   unfolding Calls.prune
   prune-number v = chain-first (rule 3 (leb least 4) ∷ pruneTests (s .oldest) (s .current) (s .opened) v) (pruned s v)
 
   pub insert-number : (k x : ℕ) → Gives (firstOf (insertTests k (s .opened) (isSome (lookup s k (next s))))) (numberOf (insert least s k x))
   unfolding Calls.insert
   insert-number k x =
-      chain-gives (insertTests k (s .opened) (isSome (lookup s k (next s)))) (update least s k (inserting k x)) (omega arith, (omega arith, (omega arith, tt)))
+      chain-gives (insertTests k (s .opened) (isSome (lookup s k (next s)))) (update least s k (inserting k x))
+      (omega arith, (omega arith, (omega arith, tt)))
       (update-ends least s k (inserting k x))
 
   pub delete-number : (k : ℕ) → Gives (firstOf (deleteTests k (s .opened) (isSome (lookup s k (next s))))) (numberOf (delete least s k))
   unfolding Calls.delete
   delete-number k =
-      chain-gives (deleteTests k (s .opened) (isSome (lookup s k (next s)))) (update least s k (deleting k)) (omega arith, (omega arith, (omega arith, tt)))
+      chain-gives (deleteTests k (s .opened) (isSome (lookup s k (next s)))) (update least s k (deleting k))
+      (omega arith, (omega arith, (omega arith, tt)))
       (update-ends least s k (deleting k))
 
 -- where no test of a return holds
 pub return-free : (s : Store) (v : ℕ) → s .opened ≡ true → Committed s v → firstOf (returnTests (s .oldest) (s .current) (s .opened) v) ≡ 0
-return-free s v o h = ap₂ (λ (x y : Bool). firstOf (Calls.rule 6 x ∷ Calls.rule 7 (not y) ∷ [])) (ap₂ _||_ (le-ltb (s .current) v (h .upto)) (le-ltb v (s .oldest) (h .from))) o
+return-free s v o h =
+    ap₂ (λ (x y : Bool). firstOf (Calls.rule 6 x ∷ Calls.rule 7 (not y) ∷ []))
+    (ap₂ _||_ (le-ltb (s .current) v (h .upto)) (le-ltb v (s .oldest) (h .from))) o
 
-pub return-number : (least : ℕ) → 4 ≤ least → (s : Store) → Sound least s → (v : ℕ) → Gives (firstOf (returnTests (s .oldest) (s .current) (s .opened) v)) (numberBy (returned least s v))
+pub return-number : (least : ℕ) → 4 ≤ least → (s : Store) → Sound least s → (v : ℕ)
+    → Gives (firstOf (returnTests (s .oldest) (s .current) (s .opened) v)) (numberBy (returned least s v))
 return-number least four s d v =
     returned-by least (λ (q : Came). Gives (firstOf (returnTests (s .oldest) (s .current) (s .opened) v)) (numberBy q)) four s d v
     (λ n. same (firstOf (returnTests (s .oldest) (s .current) (s .opened) v)) n)

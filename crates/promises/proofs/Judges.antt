@@ -35,10 +35,13 @@ use Rattle.model.specs.State.{stateOf, untold}
 use Rattle.model.specs.Return.{Came, gave, gaveUp, returned}
 use Rattle.model.specs.Histories.{begins, commits, abandons, inserts, deletes, returns, prunes}
 use Rattle.model.specs.Lent
-use Rattle.model.specs.Lent.{left, leftBy, leaving, judgedFirst, listed, freshLent, returnLent, pruneLent, lifeLent, differenceLent, visitsLent, stateLent}
-use Rattle.model.specs.Ended.{Asked, toFresh, toFreshSecond, toCheck, toOpen, toCommit, toAbandon, toInsert, toDelete, toReturn, toPrune, toLookup, toRange, toLife, toDifference, toVisits, Ended, ofOutcome, ended, endedBy, makes, toState}
+use Rattle.model.specs.Lent.{left, leftBy, leaving, judgedFirst, listed, freshLent, returnLent, pruneLent, lifeLent, differenceLent}
+use Rattle.model.specs.Lent.{visitsLent, stateLent}
+use Rattle.model.specs.Ended.{Asked, toFresh, toFreshSecond, toCheck, toOpen, toCommit, toAbandon, toInsert, toDelete, toReturn, toPrune}
+use Rattle.model.specs.Ended.{toLookup, toRange, toLife, toDifference, toVisits, Ended, ofOutcome, ended, endedBy, makes, toState}
 use Rattle.model.proofs.lists.Lists.{both-true, both-intro}
 use Rattle.model.proofs.lists.Members.{bool-cases, not-both}
+use Rattle.model.proofs.lists.Bools.{clash}
 use Rattle.model.proofs.sound.Judging.{unbroken, unbroken-all, whole, broken-none}
 use Rattle.model.proofs.needs.Lacking.{judged-low}
 use Rattle.model.proofs.theorems.Unique.{refused as leaves}
@@ -66,7 +69,8 @@ high-past : (least : ℕ) (b : List ℕ) (r : Result) → High r → Past 0 (lef
 high-past least b (done t) h = inl refl
 high-past least b (refused n) h = inr h
 
-change-past : (least : ℕ) (b : List ℕ) (f : Store → Result) → ((s : Store) → High (f s)) → Past (judged least b .number) (Lent.lent least f b .number)
+change-past : (least : ℕ) (b : List ℕ) (f : Store → Result) → ((s : Store) → High (f s))
+    → Past (judged least b .number) (Lent.lent least f b .number)
 unfolding Lent.lent
 change-past least b f h = at (judged least b .number)
   where
@@ -82,7 +86,8 @@ return-past least b v = at (judged least b .number)
     by (gave r) h = high-past least b r h
     by (gaveUp n t) h = inr h
 
-    at : (j : ℕ) → Past j (judgedFirst j (λ m. record { number = m; store = b }) (leftBy least b (returned least (decode least b) v)) .number)
+    at : (j : ℕ) → Past j
+        (judgedFirst j (λ m. record { number = m; store = b }) (leftBy least b (returned least (decode least b) v)) .number)
     at zero = by (returned least (decode least b) v) (call-high least (decode least b) (returns v) refl)
     at (suc j) = refl
 
@@ -90,7 +95,8 @@ return-past least b v = at (judged least b .number)
 prune-past : (least : ℕ) (b : List ℕ) (v : ℕ) → leb least 4 ≡ false → Past (judged least b .number) (pruneLent least b v .number)
 unfolding Lent.pruneLent
 prune-past least b v e =
-    subst (λ (t : Bool). Past (judged least b .number) (pick t (leaving 3 b) (Lent.lent least (λ (s : Store). prune least s v) b) .number)) (sym e)
+    subst (λ (t : Bool). Past (judged least b .number) (pick t (leaving 3 b) (Lent.lent least (λ (s : Store). prune least s v) b) .number))
+    (sym e)
     (change-past least b _ (λ s. call-high least s (prunes v) (ap not e)))
 
 -- a call that tells a list, where no number before 14 is given
@@ -115,7 +121,9 @@ visits-past : (least : ℕ) (b : List ℕ) (k v : ℕ) (ns : List ℕ) → Past 
 unfolding Lent.visitsLent
 visits-past least b k v ns = at (judged least b .number)
   where
-    at : (j : ℕ) → Past j (judgedFirst j (λ n. record { number = n; count = 0; list = ns }) (listed ns (Visited.visits (decode least b) k v (length ns))) .number)
+    at : (j : ℕ) → Past j
+        (judgedFirst j (λ n. record { number = n; count = 0; list = ns })
+        (listed ns (Visited.visits (decode least b) k v (length ns))) .number)
     at zero = visited-past (decode least b) k v (length ns)
     at (suc j) = refl
 
@@ -131,7 +139,8 @@ difference-past : (least : ℕ) (b : List ℕ) (u v : ℕ) (ns : List ℕ) → P
 unfolding Lent.differenceLent
 difference-past least b u v ns = at (judged least b .number)
   where
-    at : (j : ℕ) → Past j (judgedFirst j (λ n. record { number = n; count = 0; list = ns }) (listed ns (difference (decode least b) u v (length ns))) .number)
+    at : (j : ℕ) → Past j
+        (judgedFirst j (λ n. record { number = n; count = 0; list = ns }) (listed ns (difference (decode least b) u v (length ns))) .number)
     at zero = differing-past (decode least b) u v (length ns)
     at (suc j) = refl
 
@@ -147,7 +156,8 @@ life-past : (least : ℕ) (b : List ℕ) (k : ℕ) (ns : List ℕ) → Past (jud
 unfolding Lent.lifeLent
 life-past least b k ns = at (judged least b .number)
   where
-    at : (j : ℕ) → Past j (judgedFirst j (λ n. record { number = n; count = 0; list = ns }) (listed ns (Life.lived (decode least b) k (length ns))) .number)
+    at : (j : ℕ) → Past j
+        (judgedFirst j (λ n. record { number = n; count = 0; list = ns }) (listed ns (Life.lived (decode least b) k (length ns))) .number)
     at zero = lived-past (decode least b) k (length ns)
     at (suc j) = refl
 
@@ -207,17 +217,21 @@ call-past c b ns h = at (lentNumber b) refl
     at : (n : ℕ) → lentNumber b ≡ n → Past (judgedAny b .number) (ended c b ns .number)
     at zero z =
         subst (λ (e : Ended). Past (judgedAny b .number) (e .number)) (sym (ended-goes b ns c (judges-makes (leastOf b) c h) z))
-        (subst (λ (v : Verdict). Past (v .number) (endedBy (leastOf b) c b ns .number)) (sym (check-goes b z)) (past-by (leastOf b) c b ns h))
+        (subst (λ (v : Verdict). Past (v .number) (endedBy (leastOf b) c b ns .number)) (sym (check-goes b z))
+        (past-by (leastOf b) c b ns h))
     at (suc n) z =
         let early : lentNumber b ≢ 0 = λ (q : lentNumber b ≡ 0). omega arith in
-        subst (λ (m : ℕ). Past (judgedAny b .number) m) (ap (λ (v : Verdict). v .number) (check-refuses b early) ∙ sym (ended-refuses b ns c (judges-makes (leastOf b) c h) early .number)) (past-same (judgedAny b .number))
+        subst (λ (m : ℕ). Past (judgedAny b .number) m)
+        (ap (λ (v : Verdict). v .number) (check-refuses b early) ∙ sym (ended-refuses b ns c (judges-makes (leastOf b) c h) early .number))
+        (past-same (judgedAny b .number))
 
 check-low : (b : List ℕ) → judgedAny b .number ≤ 4
 check-low b = at (lentNumber b) refl
   where
     at : (n : ℕ) → lentNumber b ≡ n → judgedAny b .number ≤ 4
     at zero z = subst (λ (v : Verdict). v .number ≤ 4) (sym (check-goes b z)) (judged-low (leastOf b) b)
-    at (suc n) z = subst (λ (v : Verdict). v .number ≤ 4) (sym (check-refuses b (λ (q : lentNumber b ≡ 0). omega arith))) (omega (arith, early-low b))
+    at (suc n) z =
+        subst (λ (v : Verdict). v .number ≤ 4) (sym (check-refuses b (λ (q : lentNumber b ≡ 0). omega arith))) (omega (arith, early-low b))
 
 -- bytes on which it gives a number from 5 on are accepted
 pub late-accepts : (c : Asked) (b ns : List ℕ) → judgesAll (leastOf b) c ≡ true → 5 ≤ ended c b ns .number → Accepts b
@@ -236,9 +250,6 @@ zero-accepts c b ns m e = at (judgedAny b .number) (ended c b ns .number) (call-
     at (suc j) n p e = absurd (omega arith)
 
 -- ---- check's own number
-
-clash : {A : Type 0} → true ≡ false → A
-clash e = absurd (not-both true refl e)
 
 module _ (b : List ℕ) where
   abbrev good : ℕ → Bool
@@ -272,12 +283,15 @@ module _ (b : List ℕ) where
       bad (inr e) = e
 
   -- by the limits of an edition, where the first bytes and the edition are right
-  edition-first : (least : ℕ) → magicOk b ≡ true → editionOk least b ≡ true → FirstNumbers true true true (lengthOk least b) (good least) (judged least b .number)
+  edition-first : (least : ℕ) → magicOk b ≡ true → editionOk least b ≡ true
+      → FirstNumbers true true true (lengthOk least b) (good least) (judged least b .number)
   unfolding Judged.judged
   edition-first least m e = rw (m, e) (at (lengthOk least b))
     where
       up : (r : ℕ) → brokenIn least b ≡ r → r ≡ 0 → good least ≡ true
-      up r e z = let (low, eight) = unbroken-all least b (e ∙ z) in let u = unbroken least b low in both-intro _ _ (u .0) (both-intro _ _ (u .1) eight)
+      up r e z =
+          let (low, eight) = unbroken-all least b (e ∙ z) in let u = unbroken least b low in
+          both-intro _ _ (u .0) (both-intro _ _ (u .1) eight)
 
       down : good least ≡ true → brokenIn least b ≡ 0
       down e =
@@ -327,13 +341,15 @@ module _ (b : List ℕ) where
       none (inl q) = clash q
       none (inr q) = clash (sym (q .1 .1 .0))
 
-  check-first : FirstNumbers (leb 5 (length b)) (magicOk b) (editionKnown b) (lengthOk (leastOf b) b) (good (leastOf b)) (judgedAny b .number)
+  check-first : FirstNumbers (leb 5 (length b)) (magicOk b) (editionKnown b) (lengthOk (leastOf b) b) (good (leastOf b))
+      (judgedAny b .number)
   unfolding Any.judgedAny
   check-first =
       let N : Bool → Bool → Bool → ℕ → ℕ → Type 0 = λ w m e l n. FirstNumbers w m e (lengthOk l b) (good l) n in
       subst (λ (n : ℕ). FirstNumbers (leb 5 (length b)) (magicOk b) (editionKnown b) (lengthOk (leastOf b) b) (good (leastOf b)) n)
       (sym (number-by b (λ (v : Verdict). v .number) (λ (n : ℕ). verdict n 0) (λ (l : ℕ). judged l b) (λ n. refl)))
-      (by-tests b N (λ (l : ℕ). judged l b .number) (λ m e l. short-first m e _ _) (λ e l. magic-first e _ _) (λ l. other-first _ _) edition-first)
+      (by-tests b N (λ (l : ℕ). judged l b .number) (λ m e l. short-first m e _ _) (λ e l. magic-first e _ _)
+      (λ l. other-first _ _) edition-first)
 
 -- a number that is past another says the same of 1 to 4
 first-past : (w x y z g : Bool) (j n : ℕ) → Past j n → FirstNumbers w x y z g j → FirstNumbers w x y z g n
@@ -351,7 +367,8 @@ first-past w x y z g j n p f =
 
 pub judges : Judges
 judges c b ns h =
-    first-past (leb 5 (length b)) (magicOk b) (editionKnown b) (lengthOk (leastOf b) b) _ (judgedAny b .number) (ended c b ns .number) (call-past c b ns h) (check-first b)
+    first-past (leb 5 (length b)) (magicOk b) (editionKnown b) (lengthOk (leastOf b) b) _ (judgedAny b .number) (ended c b ns .number)
+    (call-past c b ns h) (check-first b)
 
 -- ---- bytes that are not accepted
 
@@ -371,7 +388,8 @@ untrusted c b ns h bad = at (judgedAny b .number) refl (call-past c b ns h)
     }
 
 pub one-form : OneForm
-one-form a b p q x y edition same = sym (accepted a p x .same) ∙ ap (λ (l : ℕ). encode l (storeOf a)) edition ∙ ap (encode (leastOf b)) same ∙ accepted b q y .same
+one-form a b p q x y edition same =
+    sym (accepted a p x .same) ∙ ap (λ (l : ℕ). encode l (storeOf a)) edition ∙ ap (encode (leastOf b)) same ∙ accepted b q y .same
 
 made : (least : ℕ) (c : Asked) → ((b ns : List ℕ) → ended c b ns ≡ ofOutcome ns (freshLent least b)) → (b ns : List ℕ) → Made least c b ns
 made least c is b ns = record {

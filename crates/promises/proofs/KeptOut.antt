@@ -15,14 +15,15 @@ use Rattle.model.specs.Store.{Store, next, last, lastOf, fresh}
 use Rattle.model.specs.Walk.{lookup}
 use Rattle.model.specs.Editions.{leastOf}
 use Rattle.model.specs.Calls.{isSome, rule, benchLimit, insertTests, firstOf, insert, beyond}
-use Rattle.model.proofs.sound.ByRule.{old-current}
+use Rattle.model.proofs.sound.ByRule.{old-current, upto-last}
 use Rattle.model.proofs.lists.Members.{neither}
 use Rattle.model.specs.Return.{returnTests}
 use Rattle.model.specs.Histories.{Call, begins, commits, abandons, inserts, deletes, returns, prunes}
 use Rattle.model.specs.Settings.{Machine, start, step, put}
 use Rattle.model.specs.Ended.{Asked, toInsert, toDelete, toReturn, ended}
+use Rattle.model.specs.Inner.{In}
 use Rattle.model.proofs.lists.Lists.{all-cons}
-use Rattle.model.proofs.lists.Members.{In, all-in, all-by, in-those}
+use Rattle.model.proofs.lists.Members.{all-in, all-by, in-those}
 use Rattle.model.proofs.kept.OnePage.{entered-in}
 use Rattle.promises.specs.Accepts.{storeOf}
 use Rattle.promises.specs.Runs.{Turn, Kind, making, changing, reading, kindOf, asks, fitting, givesUp, each}
@@ -54,31 +55,31 @@ low-those g us a = all-by isLow (those g us) (λ y i. all-in isLow y us a (in-th
 
 -- ---- what the numbers say
 
-current-last : (o : Bool) (n : ℕ) → n ≤ lastOf o n
-current-last true n = omega arith
-current-last false n = omega arith
-
 -- an insert that is done is of a key below the bench's
 insert-low : (k : ℕ) (o alive : Bool) (n : ℕ) → Gives (firstOf (insertTests k o alive)) n → n ≡ 0 → (k < benchLimit) × (o ≡ true)
 insert-low k o alive n g e = at (leb benchLimit k) refl o g
   where
-    at : (p : Bool) → leb benchLimit k ≡ p → (o : Bool) → Gives (firstOf (rule 5 p ∷ rule 7 (not o) ∷ rule 10 alive ∷ [])) n → (k < benchLimit) × (o ≡ true)
+    at : (p : Bool) → leb benchLimit k ≡ p → (o : Bool) → Gives (firstOf (rule 5 p ∷ rule 7 (not o) ∷ rule 10 alive ∷ [])) n
+        → (k < benchLimit) × (o ≡ true)
     at true f o g = absurd (omega arith)
     at false f false g = absurd (omega arith)
     at false f true g = (leb-false benchLimit k f, refl)
 
 -- a return that is done is to a committed version
-return-opened : (old current : ℕ) (o : Bool) (v n : ℕ) → Gives (firstOf (returnTests old current o v)) n → n ≡ 0 → (o ≡ true) × (v ≤ current)
+return-opened : (old current : ℕ) (o : Bool) (v n : ℕ) → Gives (firstOf (returnTests old current o v)) n → n ≡ 0
+    → (o ≡ true) × (v ≤ current)
 return-opened old current o v n g e = at (beyond current old v) refl o g
   where
-    at : (p : Bool) → beyond current old v ≡ p → (o : Bool) → Gives (firstOf (rule 6 p ∷ rule 7 (not o) ∷ [])) n → (o ≡ true) × (v ≤ current)
+    at : (p : Bool) → beyond current old v ≡ p → (o : Bool) → Gives (firstOf (rule 6 p ∷ rule 7 (not o) ∷ [])) n
+        → (o ≡ true) × (v ≤ current)
     at true f o g = absurd (omega arith)
     at false f false g = absurd (omega arith)
     at false f true g = (refl, ltb-false current v (neither (ltb current v) (ltb v old) f .0))
 
 insert-five : (least : ℕ) (s : Store) (k x : ℕ) → benchLimit ≤ k → numberOf (insert least s k x) ≡ 5
 insert-five least s k x h =
-    subst (λ (p : Bool). Gives (firstOf (rule 5 p ∷ rule 7 (not (s .opened)) ∷ rule 10 (isSome (lookup s k (next s))) ∷ [])) (numberOf (insert least s k x))) (le-leb benchLimit k h) (insert-number least s k x)
+    subst (λ (p : Bool). Gives (firstOf (rule 5 p ∷ rule 7 (not (s .opened)) ∷ rule 10 (isSome (lookup s k (next s))) ∷ []))
+    (numberOf (insert least s k x))) (le-leb benchLimit k h) (insert-number least s k x)
 
 -- ---- the machine
 
@@ -102,7 +103,7 @@ module _ (u : ℕ) where
 
   -- an abandon leaves the committed versions
   back : (m : Machine) → Free m → Free (step m abandons)
-  back m f = record { from = f .from; keys = λ v h g. f .keys v h (omega (arith, g, current-last (m .opened) (m .current))) }
+  back m f = record { from = f .from; keys = λ v h g. f .keys v h (omega (arith, g, upto-last (m .opened) (m .current))) }
 
   undoes : (k : Kind) (n : ℕ) (m : Machine) → Free m → Free (undone k n m)
   undoes k n m f = at (givesUp k n)
@@ -128,33 +129,52 @@ module _ (u : ℕ) where
     m = x .machine
 
     earlier : (v : ℕ) → u ≤ v → v ≤ x .machine .current → all isLow (x .machine .shows v) ≡ true
-    earlier v h g = f .keys v h (omega (arith, g, current-last (x .machine .opened) (x .machine .current)))
+    earlier v h g = f .keys v h (omega (arith, g, upto-last (x .machine .opened) (x .machine .current)))
 
     opened-last : x .machine .opened ≡ true → lastIn (x .machine) ≡ suc (x .machine .current)
     opened-last o = ap (λ (q : Bool). lastOf q (x .machine .current)) o
 
     -- an insert, a delete or a return, where an update is open
-    edits : x .machine .opened ≡ true → (us : List Pair) → (all isLow (x .machine .shows (suc (x .machine .current))) ≡ true → all isLow us ≡ true)
-        → Free (record { current = x .machine .current; opened = x .machine .opened; oldest = x .machine .oldest; shows = put (suc (x .machine .current)) us (x .machine .shows) })
+    edits : x .machine .opened ≡ true → (us : List Pair)
+        → (all isLow (x .machine .shows (suc (x .machine .current))) ≡ true → all isLow us ≡ true)
+        → Free (record {
+          current = x .machine .current;
+          opened = x .machine .opened;
+          oldest = x .machine .oldest;
+          shows = put (suc (x .machine .current)) us (x .machine .shows);
+        })
     edits o us g = record {
       from = f .from;
-      keys = λ v h i. put-free (x .machine) us (g (f .keys (suc (x .machine .current)) (omega (arith, f .from)) (omega (arith, opened-last o)))) earlier v h (omega (arith, i, opened-last o));
+      keys = λ v h i. put-free (x .machine) us
+          (g (f .keys (suc (x .machine .current)) (omega (arith, f .from)) (omega (arith, opened-last o)))) earlier v h
+          (omega (arith, i, opened-last o));
     }
 
     steps : (c : Call) → Brings (changing c) → (ns : List ℕ) → ended (asks c) (x .bytes) ns .number ≡ 0 → Free (step (x .machine) c)
-    steps begins w ns e = record { from = f .from; keys = λ v h g. put-free (x .machine) (x .machine .shows (x .machine .current)) (earlier (x .machine .current) (f .from) (omega arith)) earlier v h g }
+    steps begins w ns e =
+        record {
+          from = f .from;
+          keys = λ v h g. put-free (x .machine) (x .machine .shows (x .machine .current))
+              (earlier (x .machine .current) (f .from) (omega arith)) earlier v h g;
+        }
     steps commits w ns e =
-        let o : x .machine .opened ≡ true = first-none (x .machine .opened) (unchangedIn (x .machine)) (sym (answers x a .commits ns) ∙ e) .0 in
+        let o : x .machine .opened ≡ true = first-none (x .machine .opened) (unchangedIn (x .machine))
+        (sym (answers x a .commits ns) ∙ e) .0 in
         record { from = omega (arith, f .from); keys = λ v h g. f .keys v h (omega (arith, g, opened-last o)) }
     steps abandons w ns e = back (x .machine) f
     steps (inserts k y) w ns e =
-        let (low, o) = insert-low k (x .machine .opened) (aliveIn (x .machine) k) (ended (toInsert k y) (x .bytes) ns .number) (answers x a .inserts k y ns) e in
-        edits o (enterPair (pair k y) (x .machine .shows (suc (x .machine .current)))) (low-entered k y (x .machine .shows (suc (x .machine .current))) low)
+        let (low, o) = insert-low k (x .machine .opened) (aliveIn (x .machine) k) (ended (toInsert k y) (x .bytes) ns .number)
+        (answers x a .inserts k y ns) e in
+        edits o (enterPair (pair k y) (x .machine .shows (suc (x .machine .current))))
+        (low-entered k y (x .machine .shows (suc (x .machine .current))) low)
     steps (deletes k) w ns e =
-        let o = delete-opened k (x .machine .opened) (aliveIn (x .machine) k) (ended (toDelete k) (x .bytes) ns .number) (answers x a .deletes k ns) e in
-        edits o (those (λ (y : Pair). not (eqb (y .key) k)) (x .machine .shows (suc (x .machine .current)))) (low-those (λ (y : Pair). not (eqb (y .key) k)) (x .machine .shows (suc (x .machine .current))))
+        let o = delete-opened k (x .machine .opened) (aliveIn (x .machine) k) (ended (toDelete k) (x .bytes) ns .number)
+        (answers x a .deletes k ns) e in
+        edits o (those (λ (y : Pair). not (eqb (y .key) k)) (x .machine .shows (suc (x .machine .current))))
+        (low-those (λ (y : Pair). not (eqb (y .key) k)) (x .machine .shows (suc (x .machine .current))))
     steps (returns v) w ns e =
-        let (o, h) = return-opened (x .machine .oldest) (x .machine .current) (x .machine .opened) v (ended (toReturn v) (x .bytes) ns .number) (answers x a .returns v ns) e in
+        let (o, h) = return-opened (x .machine .oldest) (x .machine .current) (x .machine .opened) v
+        (ended (toReturn v) (x .bytes) ns .number) (answers x a .returns v ns) e in
         edits o (x .machine .shows v) (λ z. earlier v w h)
     steps (prunes v) w ns e = record { from = f .from; keys = λ y h g. f .keys y h g }
 
@@ -167,21 +187,29 @@ module _ (u : ℕ) where
         number : Asked → ℕ
         number c = ended c (x .bytes) (t .list) .number
 
-        by : (c : Call) → Brings (changing c) → Free (whenDone (number (asks c)) (step (x .machine) c) (undone (changing c) (number (asks c)) (x .machine)))
-        by c w = when (number (asks c)) (undone (changing c) (number (asks c)) (x .machine)) (step (x .machine) c) (steps c w (t .list)) (undoes (changing c) (number (asks c)) (x .machine) f)
+        by : (c : Call) → Brings (changing c) → Free
+            (whenDone (number (asks c)) (step (x .machine) c) (undone (changing c) (number (asks c)) (x .machine)))
+        by c w =
+            when (number (asks c)) (undone (changing c) (number (asks c)) (x .machine)) (step (x .machine) c) (steps c w (t .list))
+            (undoes (changing c) (number (asks c)) (x .machine) f)
 
         Goes : Asked → Kind → Type 0
-        Goes c q = Free (whenDone (ended c (x .bytes) (t .list) .number) (stepped q (x .machine)) (undone q (ended c (x .bytes) (t .list) .number) (x .machine)))
+        Goes c q =
+            Free (whenDone (ended c (x .bytes) (t .list) .number) (stepped q (x .machine))
+            (undone q (ended c (x .bytes) (t .list) .number) (x .machine)))
 
         at : (c : Asked) → Brings (kindOf c) → Goes c (kindOf c)
         at =
             by-kind (λ (c : Asked). Brings (kindOf c) → Goes c (kindOf c))
             (λ least c y h. subst (Goes c) (sym (y .kind))
-            (let h′ : u ≡ 0 = subst Brings (y .kind) h in when (ended c (x .bytes) (t .list) .number) (x .machine) start (λ e. record { from = omega (arith, h′); keys = λ v i g. refl }) f))
+            (let h′ : u ≡ 0 = subst Brings (y .kind) h in
+            when (ended c (x .bytes) (t .list) .number) (x .machine) start
+            (λ e. record { from = omega (arith, h′); keys = λ v i g. refl }) f))
             (λ c h. subst (Goes (asks c)) (sym (kind-asks c)) (by c (subst Brings (kind-asks c) h)))
             (λ c k stays h. subst (Goes c) (sym k) (same (ended c (x .bytes) (t .list) .number)))
 
-  many-free : (g : Kind → Bool) → ((k : Kind) → g k ≡ true → Brings k) → (ts : List Turn) → each fitting ts ≡ true → each g ts ≡ true → (x : Beside) → Agreed x → Free (x .machine)
+  many-free : (g : Kind → Bool) → ((k : Kind) → g k ≡ true → Brings k) → (ts : List Turn) → each fitting ts ≡ true → each g ts ≡ true
+      → (x : Beside) → Agreed x → Free (x .machine)
       → Free (along x ts .machine)
   many-free g z [] h i x a f = f
   many-free g z (t ∷ ts) h i x a f =
@@ -237,7 +265,12 @@ kept-out = record {
       let u : ℕ = storeOf b .current in
       let x : Beside = fromLent b in
       let a : Agreed x = lent-agreed b ok in
-      let f : Free u (x .machine) = record { from = omega arith; keys = λ v j g. clean v j (omega (arith, j, old-current (leastOf b) (storeOf b) (a .agrees .is-sound .old-low))) g } in
+      let f : Free u (x .machine)
+      = record {
+        from = omega arith;
+        keys = λ v j g. clean v j
+            (omega (arith, j, old-current (leastOf b) (storeOf b) (a .agrees .is-sound .old-low))) g;
+      } in
       subst (λ (q : List ℕ). BenchFree u (storeOf q)) (along-bytes ts x)
       (store-free u (along x ts) (many-turns ts h x a) (many-free u (notBehind u) (brings-none u) ts h i x a f));
 }

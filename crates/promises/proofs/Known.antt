@@ -11,7 +11,8 @@ use Rattle.model.specs.Any
 use Rattle.model.specs.Any.{judgedAny}
 use Rattle.model.specs.Ended.{Asked, ended, endedBy, makes}
 use Rattle.model.proofs.sound.Judging.{Accepted, accepted}
-use Rattle.model.proofs.theorems.Editions.{goes, refuses, edition-four, edition-eight, least-is, ended-goes, Lends, accepted-lent, accepts-any}
+use Rattle.model.proofs.theorems.Editions.{goes, refuses, edition-four, edition-eight, least-is, ended-goes, Lends, accepted-lent}
+use Rattle.model.proofs.theorems.Editions.{accepts-any}
 use Rattle.promises.specs.Accepts.{Accepts, OfEdition}
 
 module _ (b : List ℕ) where

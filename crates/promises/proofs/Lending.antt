@@ -22,7 +22,8 @@ use Rattle.model.specs.Histories.{Call, begins, commits, abandons, inserts, del
 use Rattle.model.specs.Settings
 use Rattle.model.specs.Lent
 use Rattle.model.specs.Lent.{Outcome, left, leftBy, leaving, judgedFirst, freshLent, returnLent, pruneLent}
-use Rattle.model.specs.Ended.{Asked, toFresh, toFreshSecond, toCheck, toOpen, toCommit, toAbandon, toInsert, toDelete, toReturn, toPrune, toLookup, toRange, toLife, toDifference, toVisits, Ended, ofOutcome, ended, endedBy, makes, toState}
+use Rattle.model.specs.Ended.{Asked, toFresh, toFreshSecond, toCheck, toOpen, toCommit, toAbandon, toInsert, toDelete, toReturn, toPrune}
+use Rattle.model.specs.Ended.{toLookup, toRange, toLife, toDifference, toVisits, Ended, ofOutcome, ended, endedBy, makes, toState}
 use Rattle.model.proofs.lists.Members.{true-holds}
 use Rattle.model.proofs.sound.ByRule.{to-tests}
 use Rattle.model.proofs.turning.Turns.{fresh-sound}
@@ -93,7 +94,8 @@ module _ (b : List ℕ) (ok : Accepts b) where
 
   return-is : (v : ℕ) → returnLent (leastOf b) b v ≡ leftBy (leastOf b) b (returned (leastOf b) (storeOf b) v)
   unfolding Lent.returnLent
-  return-is v = ap (λ (n : ℕ). judgedFirst n (λ m. record { number = m; store = b }) (leftBy least b (returned least (storeOf b) v))) (judged-by b ok)
+  return-is v =
+      ap (λ (n : ℕ). judgedFirst n (λ m. record { number = m; store = b }) (leftBy least b (returned least (storeOf b) v))) (judged-by b ok)
 
   -- in edition 1 it is 3 before the store is judged, and after
   prune-is : (v : ℕ) → pruneLent (leastOf b) b v ≡ left (leastOf b) b (prune (leastOf b) (storeOf b) v)
@@ -101,13 +103,16 @@ module _ (b : List ℕ) (ok : Accepts b) where
   prune-is v = at (leb (leastOf b) 4) refl
     where
       tests : Bool → Result
-      tests x = numbered (rule 3 x ∷ pruneTests (storeOf b .oldest) (storeOf b .current) (storeOf b .opened) v) (done (pruned (storeOf b) v))
+      tests x =
+          numbered (rule 3 x ∷ pruneTests (storeOf b .oldest) (storeOf b .current) (storeOf b .opened) v) (done (pruned (storeOf b) v))
 
-      at : (x : Bool) → leb (leastOf b) 4 ≡ x → pick x (leaving 3 b) (Lent.lent (leastOf b) (λ (s : Store). prune (leastOf b) s v) b) ≡ left (leastOf b) b (tests x)
+      at : (x : Bool) → leb (leastOf b) 4 ≡ x → pick x (leaving 3 b) (Lent.lent (leastOf b) (λ (s : Store). prune (leastOf b) s v) b)
+          ≡ left (leastOf b) b (tests x)
       at true e = refl
       at false e = lent-is (λ (s : Store). prune (leastOf b) s v) ∙ ap (λ (x : Bool). left (leastOf b) b (tests x)) e
 
-  change-by : (c : Call) (ns : List ℕ) → endedBy (leastOf b) (asks c) b ns ≡ ofOutcome ns (leftBy (leastOf b) b (callBy (leastOf b) (storeOf b) c))
+  change-by : (c : Call) (ns : List ℕ) → endedBy (leastOf b) (asks c) b ns
+      ≡ ofOutcome ns (leftBy (leastOf b) b (callBy (leastOf b) (storeOf b) c))
   unfolding Lent.openLent Lent.commitLent Lent.abandonLent Lent.insertLent Lent.deleteLent
   change-by begins ns = ap (ofOutcome ns) (lent-is _)
   change-by commits ns = ap (ofOutcome ns) (lent-is _)
@@ -134,11 +139,13 @@ module _ (b : List ℕ) (ok : Accepts b) where
 module _ (least : ℕ) (b : List ℕ) where
   pub made-right : lengthOk least b ≡ true → freshLent least b ≡ record { number = 0; store = encode least (fresh (sizeOf least b)) }
   unfolding Lent.freshLent
-  made-right h = ap (λ (t : Bool). pick t (record { number = 0; store = encode least (fresh (sizeOf least b)) }) (record { number = 1; store = b })) h
+  made-right h =
+      ap (λ (t : Bool). pick t (record { number = 0; store = encode least (fresh (sizeOf least b)) }) (record { number = 1; store = b })) h
 
   pub made-wrong : lengthOk least b ≡ false → freshLent least b ≡ record { number = 1; store = b }
   unfolding Lent.freshLent
-  made-wrong h = ap (λ (t : Bool). pick t (record { number = 0; store = encode least (fresh (sizeOf least b)) }) (record { number = 1; store = b })) h
+  made-wrong h =
+      ap (λ (t : Bool). pick t (record { number = 0; store = encode least (fresh (sizeOf least b)) }) (record { number = 1; store = b })) h
 
 -- ---- what is left
 
@@ -154,7 +161,8 @@ written least e b s sure =
     let w : Written least s = encoded-sound least e s sure in
     record { accepts = w .accepted; edition = w .edition; holds = w .held; bytes = λ h. w .bytes }
 
-left-leaves : (b : List ℕ) → Accepts b → (r : Came) → T (sound (leastOf b) (after (storeOf b) r .store)) → Leaves (leastOf b) b (after (storeOf b) r .store) (leftBy (leastOf b) b r .store)
+left-leaves : (b : List ℕ) → Accepts b → (r : Came) → T (sound (leastOf b) (after (storeOf b) r .store))
+    → Leaves (leastOf b) b (after (storeOf b) r .store) (leftBy (leastOf b) b r .store)
 left-leaves b ok (gave (done t)) sure = written (leastOf b) (least-is b) b t sure
 left-leaves b ok (gave (refused n)) sure = record { accepts = ok; edition = refl; holds = refl; bytes = λ h. h }
 left-leaves b ok (gaveUp n t) sure = written (leastOf b) (least-is b) b t sure
@@ -169,15 +177,19 @@ change-leaves b ok c h ns =
     subst (λ (e : Ended). Leaves l b (after (storeOf b) (callBy l (storeOf b) c) .store) (e .store)) (sym (change-is b ok c ns))
     (left-leaves b ok (callBy l (storeOf b) c) (call-sound l (four b) (storeOf b) (held-sound b ok) c (true-holds (Settings.fits c) h)))
 
-pub fresh-leaves : (least : ℕ) → OfEdition least → (b : List ℕ) → lengthOk least b ≡ true → Leaves least b (fresh (sizeOf least b)) (freshLent least b .store)
+pub fresh-leaves : (least : ℕ) → OfEdition least → (b : List ℕ) → lengthOk least b ≡ true
+    → Leaves least b (fresh (sizeOf least b)) (freshLent least b .store)
 fresh-leaves least e b h =
     let w = whole-length least b h in
     let low : 4 ≤ least = edition-four least e in
     subst (λ (o : Outcome). Leaves least b (fresh (sizeOf least b)) (o .store)) (sym (made-right least b h))
-    (written least e b (fresh (sizeOf least b)) (true-holds (sound least (fresh (sizeOf least b))) (to-tests least (fresh (sizeOf least b)) (fresh-sound least (omega arith) (sizeOf least b) (w .six) (w .most)))))
+    (written least e b (fresh (sizeOf least b))
+    (true-holds (sound least (fresh (sizeOf least b)))
+    (to-tests least (fresh (sizeOf least b)) (fresh-sound least (omega arith) (sizeOf least b) (w .six) (w .most)))))
 
 -- accepted bytes stay accepted, fresh or as they were
-module _ (P : List ℕ → Type 0) (least : ℕ) (e : OfEdition least) (b : List ℕ) (same : P b) (new : (s : Store) (b′ : List ℕ) → Leaves least b s b′ → P b′) where
+module _ (P : List ℕ → Type 0) (least : ℕ) (e : OfEdition least) (b : List ℕ) (same : P b)
+    (new : (s : Store) (b′ : List ℕ) → Leaves least b s b′ → P b′) where
   pub made-keeps : P (freshLent least b .store)
   made-keeps = at (lengthOk least b) refl
     where
@@ -189,13 +201,15 @@ module _ (P : List ℕ → Type 0) (least : ℕ) (e : OfEdition least) (b : List
 pub call-accepts : (b : List ℕ) → Accepts b → (a : Asked) → fitting (kindOf a) ≡ true → (ns : List ℕ) → Accepts (ended a b ns .store)
 call-accepts b ok =
     by-kind (λ (x : Asked). fitting (kindOf x) ≡ true → (ns : List ℕ) → Accepts (ended x b ns .store))
-    (λ least a m h ns. subst (λ (x : Ended). Accepts (x .store)) (sym (m .is b ns)) (made-keeps Accepts least (m .edition) b ok (λ s b′ l. l .accepts)))
+    (λ least a m h ns. subst (λ (x : Ended). Accepts (x .store)) (sym (m .is b ns))
+    (made-keeps Accepts least (m .edition) b ok (λ s b′ l. l .accepts)))
     (λ c h ns. change-leaves b ok c (ap fitting (sym (kind-asks c)) ∙ h) ns .accepts)
     (λ x k same h ns. subst Accepts (sym (same b ns)) ok)
 
 pub call-bytes : (b : List ℕ) → Accepts b → Bytes b → (a : Asked) → fitting (kindOf a) ≡ true → (ns : List ℕ) → Bytes (ended a b ns .store)
 call-bytes b ok bytes =
     by-kind (λ (x : Asked). fitting (kindOf x) ≡ true → (ns : List ℕ) → Bytes (ended x b ns .store))
-    (λ least a m h ns. subst (λ (x : Ended). Bytes (x .store)) (sym (m .is b ns)) (made-keeps Bytes least (m .edition) b bytes (λ s b′ l. l .bytes bytes)))
+    (λ least a m h ns. subst (λ (x : Ended). Bytes (x .store)) (sym (m .is b ns))
+    (made-keeps Bytes least (m .edition) b bytes (λ s b′ l. l .bytes bytes)))
     (λ c h ns. change-leaves b ok c (ap fitting (sym (kind-asks c)) ∙ h) ns .bytes bytes)
     (λ x k same h ns. subst Bytes (sym (same b ns)) bytes)

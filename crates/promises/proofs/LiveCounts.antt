@@ -14,7 +14,8 @@ use Rattle.model.specs.Store.{Store, page, last}
 use Rattle.model.specs.Field.{field}
 use Rattle.model.specs.Layout.{lives, liveIn, liveOf, pageOf, sizeOf}
 use Rattle.model.specs.Editions.{leastOf}
-use Rattle.model.proofs.sound.ByRule.{Sound, used-in, high-used}
+use Rattle.model.specs.ByRule.{Sound}
+use Rattle.model.proofs.sound.ByRule.{used-in, high-used}
 use Rattle.model.proofs.sound.Judging.{Accepted, accepted-sound}
 use Rattle.model.proofs.sound.Counted.{those-last, killed-none}
 use Rattle.store.proofs.laws.Read.{page-at, count-pages}
@@ -51,7 +52,8 @@ live-counts b ok e n u = record { right = right; killed = λ k. right ∙ ap len
     five = high-used s n (sure .front) u
 
     inside : n < sizeOf (leastOf b) b
-    inside = omega (arith, used-in (s .pages) n u, count-pages (leastOf b) b (omega (arith, whole-length (leastOf b) b (a .length-ok) .six)))
+    inside =
+        omega (arith, used-in (s .pages) n u, count-pages (leastOf b) b (omega (arith, whole-length (leastOf b) b (a .length-ok) .six)))
 
     -- by the edition's own least
     told : liveOf (leastOf b) (pageOf (leastOf b) b n) ≡ liveShown (leastOf b) (length (those (liveAt (last s)) es))
@@ -59,7 +61,9 @@ live-counts b ok e n u = record { right = right; killed = λ k. right ∙ ap len
         counted (leastOf b) (eight b) b a n five inside
         ∙ ap (λ (p : Page). liveIn (leastOf b) (p .entries)) (sym (page-at (leastOf b) b n five inside))
         ∙ shows (leastOf b) es
-        ∙ ap (λ (l : List Entry). liveShown (leastOf b) (length l)) (sym (those-last (last s) (length (s .pages)) (page (s .pages) n .level) (sure .last-low) es (sure .pages n u .entries)))
+        ∙ ap (λ (l : List Entry). liveShown (leastOf b) (length l))
+        (sym (those-last (last s) (length (s .pages)) (page (s .pages) n .level) (sure .last-low) es (sure .pages n u .entries)))
 
     right : liveCount b n ≡ length (those (liveAt (last s)) es)
-    right = sym (stands (pageOf 8 b n)) ∙ subst (λ (l : ℕ). liveOf l (pageOf l b n) ≡ liveShown l (length (those (liveAt (last s)) es))) e told
+    right =
+        sym (stands (pageOf 8 b n)) ∙ subst (λ (l : ℕ). liveOf l (pageOf l b n) ≡ liveShown l (length (those (liveAt (last s)) es))) e told

@@ -32,8 +32,9 @@ use Rattle.model.specs.Lent.{Listed, listed}
 use Rattle.model.specs.Any.{lookupAny, lifeAny}
 use Rattle.model.specs.Ended.{toCommit, toLife, ofListed, ended}
 use Rattle.model.specs.Telling.{Shape}
+use Rattle.model.specs.ByRule.{Readable}
 use Rattle.model.proofs.lists.Lists.{all-cons, both-intro}
-use Rattle.model.proofs.sound.ByRule.{Readable, of-readable, old-current}
+use Rattle.model.proofs.sound.ByRule.{of-readable, old-current, upto-last}
 use Rattle.model.proofs.sound.Judging.{accepted-sound}
 use Rattle.model.proofs.reading.Alike.{alike-lookup}
 use Rattle.model.proofs.theorems.History.{many-calls}
@@ -62,11 +63,7 @@ module _ (b : List ℕ) (ok : Accepts b) where
   last-low = accepted-sound (leastOf b) b (taken b ok) .last-low
 
   upto : storeOf b .current ≤ last (storeOf b)
-  upto = at (storeOf b .opened) (storeOf b .current)
-    where
-      at : (o : Bool) (n : ℕ) → n ≤ lastOf o n
-      at true n = omega arith
-      at false n = omega arith
+  upto = upto-last (storeOf b .opened) (storeOf b .current)
 
   current-low : storeOf b .current < alive
   current-low = omega (arith, last-low, upto)
@@ -101,7 +98,8 @@ module _ (b : List ℕ) (ok : Accepts b) (k : ℕ) (h : k < keyLimit) (ns : List
   unfolding Life.lived Told.toldBy
   told t e =
       ap (ofListed b) (life-lent b ok k ns)
-      ∙ ap (λ (p : Bool). ofListed b (listed ns (toldBy stretchNumbers 3 (firstOf (rule 5 p ∷ [])) (length ns) (life (storeOf b) k)))) (lt-leb keyLimit k h)
+      ∙ ap (λ (p : Bool). ofListed b (listed ns (toldBy stretchNumbers 3 (firstOf (rule 5 p ∷ [])) (length ns) (life (storeOf b) k))))
+      (lt-leb keyLimit k h)
       ∙ ap (λ (q : Bool). ofListed b (listed ns (toldIn stretchNumbers (firstOf (rule 14 q ∷ [])) (life (storeOf b) k)))) e
 
 pub life-given : LifeGiven
@@ -110,7 +108,8 @@ life-given b ok k h ns =
     let xs = life (storeOf b) k in
     record {
       room = λ r. told b ok k h ns false (le-ltb (length ns) (3 * length xs) r)
-          ∙ ap (λ (n : ℕ). record { number = 0; results = length xs ∷ []; store = b; list = flatMap stretchNumbers xs ++ drop n ns }) (length-numbers shape xs);
+          ∙ ap (λ (n : ℕ). record { number = 0; results = length xs ∷ []; store = b; list = flatMap stretchNumbers xs ++ drop n ns })
+          (length-numbers shape xs);
       short = λ r. told b ok k h ns true (lt-ltb (length ns) (3 * length xs) r);
     }
 
@@ -138,13 +137,15 @@ module _ (b b′ : List ℕ) (ok : Accepts b) (ok′ : Accepts b′) (k : ℕ) (
   lived-same room = at (leb keyLimit k) refl
     where
       at : (p : Bool) → leb keyLimit k ≡ p
-          → toldBy stretchNumbers 3 (firstOf (rule 5 p ∷ [])) room (life (storeOf b′) k) ≡ toldBy stretchNumbers 3 (firstOf (rule 5 p ∷ [])) room (life (storeOf b) k)
+          → toldBy stretchNumbers 3 (firstOf (rule 5 p ∷ [])) room (life (storeOf b′) k)
+          ≡ toldBy stretchNumbers 3 (firstOf (rule 5 p ∷ [])) room (life (storeOf b) k)
       at true e = refl
       at false e = ap (toldBy stretchNumbers 3 0 room) (same (leb-false keyLimit k e))
 
   says-same : (ns : List ℕ) → SaysSame (ended (toLife k) b′ ns) (ended (toLife k) b ns)
   says-same ns =
-      let e : lifeAny b′ k ns ≡ lifeAny b k ns = life-lent b′ ok′ k ns ∙ ap (listed ns) (lived-same (length ns)) ∙ sym (life-lent b ok k ns) in
+      let e : lifeAny b′ k ns ≡ lifeAny b k ns = life-lent b′ ok′ k ns ∙ ap (listed ns) (lived-same (length ns))
+      ∙ sym (life-lent b ok k ns) in
       record {
         number = ap (λ (r : Listed). r .number) e;
         results = ap (λ (r : Listed). ofListed b r .results) e;
@@ -160,14 +161,17 @@ not-making reading h = refl
 
 each-not : (ts : List Turn) → each uncommitting ts ≡ true → each notMaking ts ≡ true
 each-not [] h = refl
-each-not (t ∷ ts) h = let (x, y) = all-cons (λ (u : Turn). uncommitting (kindOf (u .call))) t ts h in both-intro _ _ (not-making (kindOf (t .call)) x) (each-not ts y)
+each-not (t ∷ ts) h =
+    let (x, y) = all-cons (λ (u : Turn). uncommitting (kindOf (u .call))) t ts h in
+    both-intro _ _ (not-making (kindOf (t .call)) x) (each-not ts y)
 
 abbrev keeps : Call → Bool
 keeps c = uncommitting (changing c)
 
 calls-keep : (ts : List Turn) → each uncommitting ts ≡ true → all keeps (callsOf ts) ≡ true
 calls-keep [] h = refl
-calls-keep (t ∷ ts) h = let (x, y) = all-cons (λ (u : Turn). uncommitting (kindOf (u .call))) t ts h in at (kindOf (t .call)) x (calls-keep ts y)
+calls-keep (t ∷ ts) h =
+    let (x, y) = all-cons (λ (u : Turn). uncommitting (kindOf (u .call))) t ts h in at (kindOf (t .call)) x (calls-keep ts y)
   where
     at : (q : Kind) → uncommitting q ≡ true → all keeps (callsOf ts) ≡ true → all keeps (withCall q (callsOf ts)) ≡ true
     at making x y = y
@@ -218,11 +222,14 @@ open-unshown b ok ts f u k =
     let left = later b ok ts f m in
     let on = goes b ok ts f m in
     let agrees = many-calls (leastOf b) (four b) (callsOf ts) (calls-fit ts f) (lent s) (lent-agrees (leastOf b) s (held-sound b ok)) in
-    let kept : storeOf b′ .current ≡ s .current = ap (λ (t : Store). t .current) (left .holds) ∙ agrees .current ∙ all-kept (leastOf b) (callsOf ts) (calls-keep ts u) (lent s) in
-    let old : storeOf b′ .oldest ≡ s .oldest = ap (λ (t : Store). t .oldest) (left .holds) ∙ agrees .oldest ∙ all-old (leastOf b) (callsOf ts) (calls-keep ts u) (lent s) in
+    let kept : storeOf b′ .current ≡ s .current = ap (λ (t : Store). t .current) (left .holds) ∙ agrees .current
+    ∙ all-kept (leastOf b) (callsOf ts) (calls-keep ts u) (lent s) in
+    let old : storeOf b′ .oldest ≡ s .oldest = ap (λ (t : Store). t .oldest) (left .holds) ∙ agrees .oldest
+    ∙ all-old (leastOf b) (callsOf ts) (calls-keep ts u) (lent s) in
     says-same b b′ ok (left .accepts) k
     (λ h. ap₂ (λ (o c : ℕ). lifeOf o c (lookup (storeOf b′) k)) old kept
-    ∙ life-ext (s .oldest) (s .current) (lookup (storeOf b′) k) (lookup s k) (λ v from l. alike-lookup s v (storeOf b′) v (on .steady v (omega (arith, old, from)) l) k))
+    ∙ life-ext (s .oldest) (s .current) (lookup (storeOf b′) k) (lookup s k)
+    (λ v from l. alike-lookup s v (storeOf b′) v (on .steady v (omega (arith, old, from)) l) k))
 
 -- ---- a commit
 
@@ -231,9 +238,12 @@ module _ (b : List ℕ) (ok : Accepts b) where
   opened-by : (ms : List ℕ) → ended toCommit b ms .number ≡ 0 → (storeOf b .opened ≡ true) × (unchanged (storeOf b) ≡ false)
   opened-by ms given = first-none (storeOf b .opened) (unchanged (storeOf b)) (sym (number-is b ms ok) ∙ given)
 
-  commit-after : storeOf b .opened ≡ true → unchanged (storeOf b) ≡ false → after (storeOf b) (callBy (leastOf b) (storeOf b) commits) .store ≡ committed (storeOf b)
+  commit-after : storeOf b .opened ≡ true → unchanged (storeOf b) ≡ false
+      → after (storeOf b) (callBy (leastOf b) (storeOf b) commits) .store ≡ committed (storeOf b)
   unfolding Calls.commit
-  commit-after o c = ap₂ (λ (q r : Bool). after (storeOf b) (gave (Calls.numbered (rule 7 (not q) ∷ rule 15 r ∷ []) (done (committed (storeOf b))))) .store) o c
+  commit-after o c =
+      ap₂ (λ (q r : Bool). after (storeOf b)
+      (gave (Calls.numbered (rule 7 (not q) ∷ rule 15 r ∷ []) (done (committed (storeOf b))))) .store) o c
 
 pub left-alone : LeftAlone
 left-alone b ok ms given k same =
@@ -245,4 +255,7 @@ left-alone b ok ms given k same =
     let up : last s ≡ next s = ap (λ (q : Bool). lastOf q (s .current)) o in
     says-same b b′ ok (left .accepts) k
     (λ h. ap (λ (t : Store). life t k) is
-    ∙ life-stays (s .current) (lookup s k) (looked-one (lookup s k (next s)) (lookup s k (s .current)) (sym (looked b ok k (next s) h (omega (arith, kept-low b ok))) ∙ same ∙ looked b ok k (s .current) h (omega (arith, upto b ok, kept-low b ok)))) (s .oldest) (kept-low b ok))
+    ∙ life-stays (s .current) (lookup s k)
+    (looked-one (lookup s k (next s)) (lookup s k (s .current))
+    (sym (looked b ok k (next s) h (omega (arith, kept-low b ok))) ∙ same
+    ∙ looked b ok k (s .current) h (omega (arith, upto b ok, kept-low b ok)))) (s .oldest) (kept-low b ok))

@@ -2,7 +2,7 @@
 -- Assumes nothing.
 use Prim.Native.Nat.{ℕ, zero, suc, _*_, _≤_, _<_}
 use native.Mathlib.Omega.{arith}
-use mathlib.Core.Bool.{Bool, true, false, _||_, not}
+use mathlib.Core.Bool.{Bool, true, false, _||_, not, or-true}
 use mathlib.Core.Path.{_≡_, refl, ap, sym, _∙_, subst}
 use mathlib.Core.Logic.{_↔_, _⊎_, inl, inr}
 use mathlib.Core.Option.{Option, none, some}
@@ -27,16 +27,18 @@ use Rattle.model.specs.Any
 use Rattle.model.specs.Any.{lookupAny, rangeAny}
 use Rattle.model.specs.Ended.{toLookup, toRange, Ended, ended, endedBy, ofLooked, ofListed}
 use Rattle.model.proofs.theorems.Editions.{ended-goes}
+use Rattle.model.proofs.lists.Bools.{clash}
 use Rattle.promises.specs.Accepts.{storeOf}
 use Rattle.promises.specs.Demand1.{editionKnown}
 use Rattle.promises.specs.Near.{FrontWrong, WrongDown, WrongAcross, WrongFrom, ReadingNumbers, LookupJudges, RangeJudges}
 use Rattle.promises.proofs.Early.{by-tests, number-by, past-early}
-use Rattle.promises.proofs.Clauses.{clash, front-clauses, lookup-clauses, range-clauses}
+use Rattle.promises.proofs.Clauses.{front-clauses, lookup-clauses, range-clauses}
 
 -- ---- the chain: 1, 2, 3, 4 by the front, 5, 6, 4 by the walk
 
 abbrev chain : Bool → Bool → Bool → Bool → Bool → Bool → Bool → ℕ
-chain a m e f g h w = firstOf (rule 1 (not a) ∷ rule 2 (not m) ∷ rule 3 (not e) ∷ rule 4 (not f) ∷ rule 5 g ∷ rule 6 h ∷ rule 4 (not w) ∷ [])
+chain a m e f g h w =
+    firstOf (rule 1 (not a) ∷ rule 2 (not m) ∷ rule 3 (not e) ∷ rule 4 (not f) ∷ rule 5 g ∷ rule 6 h ∷ rule 4 (not w) ∷ [])
 
 chain-low : (a m e f g h w : Bool) → chain a m e f g h w ≤ 6
 chain-low false m e f g h w = omega arith
@@ -94,7 +96,8 @@ module _ (front bad late walk : Type 0) where
 
 -- ---- the rest
 
-module _ (front bad late walk : Type 0) (f g h w : Bool) (ff : (f ≡ false) ↔ front) (gg : (g ≡ true) ↔ bad) (hh : (h ≡ true) ↔ late) (ww : (w ≡ false) ↔ walk) where
+module _ (front bad late walk : Type 0) (f g h w : Bool) (ff : (f ≡ false) ↔ front) (gg : (g ≡ true) ↔ bad) (hh : (h ≡ true) ↔ late)
+    (ww : (w ≡ false) ↔ walk) where
   -- what stands behind the first three, by the four tests
   abbrev Four : Type 0
   Four = front ⊎ ((bad → ⊥) × ((late → ⊥) × walk))
@@ -121,7 +124,12 @@ module _ (front bad late walk : Type 0) (f g h w : Bool) (ff : (f ≡ false) ↔
   rest-is : (p q r t : Bool) → f ≡ p → g ≡ q → h ≡ r → w ≡ t → Rest (rest p q r t)
   rest-is false q r t x y z u =
       let yes = ff .0 x in
-      record { low = λ e. omega arith; four = (λ e. inl yes, λ c. refl); five = (λ e. absurd (omega arith), λ c. absurd (c .0 yes)); six = (λ e. absurd (omega arith), λ c. absurd (c .0 yes)) }
+      record {
+        low = λ e. omega arith;
+        four = (λ e. inl yes, λ c. refl);
+        five = (λ e. absurd (omega arith), λ c. absurd (c .0 yes));
+        six = (λ e. absurd (omega arith), λ c. absurd (c .0 yes));
+      }
   rest-is true true r t x y z u =
       let yes = gg .0 y in
       let right : front → ⊥ = λ c. clash (sym x ∙ ff .1 c) in
@@ -189,7 +197,8 @@ module _ (front bad late walk : Type 0) (f g h w : Bool) (ff : (f ≡ false) ↔
   numbers-are true = behind (rest f g h w) (rest-is f g h w refl refl refl refl)
 
   -- a number that is 14 in the place of 0 says the same of 1 to 6
-  pub carried : (x m e a : Bool) (c n : ℕ) → (c ≡ n) ⊎ ((c ≡ 0) × (n ≡ 14)) → Numbers front bad late walk x m e a c → Numbers front bad late walk x m e a n
+  pub carried : (x m e a : Bool) (c n : ℕ) → (c ≡ n) ⊎ ((c ≡ 0) × (n ≡ 14)) → Numbers front bad late walk x m e a c
+      → Numbers front bad late walk x m e a n
   carried x m e a c n t r = record {
     one = joined (same 1 (omega arith) (omega arith)) (r .one);
     two = joined (same 2 (omega arith) (omega arith)) (r .two);
@@ -217,10 +226,6 @@ late-is s v = (to (ltb (last s) v) refl, back)
     to true x e = inl (ltb-true (last s) v x)
     to false x e = inr (ltb-true v (s .oldest) e)
 
-    or-true : (p : Bool) → (p || true) ≡ true
-    or-true true = refl
-    or-true false = refl
-
     back : (last s < v) ⊎ (v < s .oldest) → unreadable s v ≡ true
     back (inl e) = rw (lt-ltb (last s) v e)
     back (inr e) = rw (lt-ltb v (s .oldest) e) (or-true (ltb (last s) v))
@@ -245,16 +250,19 @@ module _ (least : ℕ) (b : List ℕ) (k v : ℕ) where
 
   abbrev Looks : Bool → Bool → Bool → ℕ → Type 0
   Looks x m e n =
-      ReadingNumbers x m e (lengthOk least b) (FrontWrong least b) (keyLimit ≤ k) ((last (decode least b) < v) ⊎ (v < decode least b .oldest)) (WrongFrom least b v (λ up n. WrongDown least b v up k n)) n
+      ReadingNumbers x m e (lengthOk least b) (FrontWrong least b) (keyLimit ≤ k)
+      ((last (decode least b) < v) ⊎ (v < decode least b .oldest)) (WrongFrom least b v (λ up n. WrongDown least b v up k n)) n
 
   -- by the limits of an edition
   looks-by : magicOk b ≡ true → editionOk least b ≡ true → Looks true true true (lookedNumber (lookupLent least b k v))
   unfolding Lent.lookupLent Near.lookupNear
   looks-by m e =
       rw (m, e)
-      (carried _ _ _ _ (frontRight least b) (leb keyLimit k) (unreadable (decode least b) v) right-way (front-clauses least b) (leb-true keyLimit k, le-leb keyLimit k) (late-is (decode least b) v) (lookup-clauses least b v k)
+      (carried _ _ _ _ (frontRight least b) (leb keyLimit k) (unreadable (decode least b) v) right-way (front-clauses least b)
+      (leb-true keyLimit k, le-leb keyLimit k) (late-is (decode least b) v) (lookup-clauses least b v k)
       true true true (lengthOk least b) (told true true) _ (inl (sym (looked-number (told true true) (lookup (decode least b) k v))))
-      (numbers-are _ _ _ _ (frontRight least b) (leb keyLimit k) (unreadable (decode least b) v) right-way (front-clauses least b) (leb-true keyLimit k, le-leb keyLimit k) (late-is (decode least b) v) (lookup-clauses least b v k)
+      (numbers-are _ _ _ _ (frontRight least b) (leb keyLimit k) (unreadable (decode least b) v) right-way (front-clauses least b)
+      (leb-true keyLimit k, le-leb keyLimit k) (late-is (decode least b) v) (lookup-clauses least b v k)
       (lengthOk least b)))
 
   looks-done : lookedNumber (lookupLent least b k v) ≡ 0 → lookupLent least b k v ≡ lookedAt (lookup (decode least b) k v)
@@ -275,9 +283,11 @@ module _ (b : List ℕ) (k v : ℕ) where
       (λ l. other-three _ _ _ _ (lengthOk l b))
       (λ l m e. looks-by l b k v m e))
 
-  looked-so : (ns : List ℕ) → ended (toLookup k v) b ns .number ≡ 0 → ended (toLookup k v) b ns ≡ ofLooked b ns (lookedAt (lookup (storeOf b) k v))
+  looked-so : (ns : List ℕ) → ended (toLookup k v) b ns .number ≡ 0
+      → ended (toLookup k v) b ns ≡ ofLooked b ns (lookedAt (lookup (storeOf b) k v))
   looked-so ns e =
-      let is : ended (toLookup k v) b ns ≡ endedBy (leastOf b) (toLookup k v) b ns = ended-goes b ns (toLookup k v) refl (past-early b (toLookup k v) refl ns (inl e)) in
+      let is : ended (toLookup k v) b ns ≡ endedBy (leastOf b) (toLookup k v) b ns
+      = ended-goes b ns (toLookup k v) refl (past-early b (toLookup k v) refl ns (inl e)) in
       is ∙ ap (ofLooked b ns) (looks-done (leastOf b) b k v (sym (ap (λ (x : Ended). x .number) is) ∙ e))
 
 pub lookup-judges : LookupJudges
@@ -288,7 +298,8 @@ lookup-judges = record { numbers = λ b k v ns. looks b k v; answers = looked-so
 bad-is : (lo hi : ℕ) → ((leb keyLimit lo || leb keyLimit hi || ltb hi lo) ≡ true) ↔ ((keyLimit ≤ lo) ⊎ ((keyLimit ≤ hi) ⊎ (hi < lo)))
 bad-is lo hi = (to (leb keyLimit lo) refl (leb keyLimit hi) refl, back)
   where
-    to : (p : Bool) → leb keyLimit lo ≡ p → (q : Bool) → leb keyLimit hi ≡ q → (p || q || ltb hi lo) ≡ true → (keyLimit ≤ lo) ⊎ ((keyLimit ≤ hi) ⊎ (hi < lo))
+    to : (p : Bool) → leb keyLimit lo ≡ p → (q : Bool) → leb keyLimit hi ≡ q → (p || q || ltb hi lo) ≡ true
+        → (keyLimit ≤ lo) ⊎ ((keyLimit ≤ hi) ⊎ (hi < lo))
     to true x q y e = inl (leb-true keyLimit lo x)
     to false x true y e = inr (inl (leb-true keyLimit hi y))
     to false x false y e = inr (inr (ltb-true hi lo e))
@@ -308,7 +319,8 @@ bad-is lo hi = (to (leb keyLimit lo) refl (leb keyLimit hi) refl, back)
     back (inr (inr e)) = rw (lt-ltb hi lo e) (last-one (leb keyLimit lo) (leb keyLimit hi))
 
 module _ (room : ℕ) (xs : List Pair) where
-  in-list : (t : Bool) → (_≡_ {A = ℕ} 0 (rangedIn (firstOf (rule 14 t ∷ [])) xs .number)) ⊎ ((_≡_ {A = ℕ} 0 0) × (rangedIn (firstOf (rule 14 t ∷ [])) xs .number ≡ 14))
+  in-list : (t : Bool) → (_≡_ {A = ℕ} 0 (rangedIn (firstOf (rule 14 t ∷ [])) xs .number))
+      ⊎ ((_≡_ {A = ℕ} 0 0) × (rangedIn (firstOf (rule 14 t ∷ [])) xs .number ≡ 14))
   unfolding Calls.rangedIn
   in-list true = inr (refl, refl)
   in-list false = inl refl
@@ -319,7 +331,8 @@ module _ (room : ℕ) (xs : List Pair) where
   ranged-number (suc n) = inl refl
 
   -- no number from 1 to 6 was given
-  none-given : (n : ℕ) → n ≤ 6 → (rangedBy n room xs .number ≡ 0) ⊎ (rangedBy n room xs .number ≡ 14) → rangedBy n room xs ≡ rangedBy 0 room xs
+  none-given : (n : ℕ) → n ≤ 6 → (rangedBy n room xs .number ≡ 0) ⊎ (rangedBy n room xs .number ≡ 14)
+      → rangedBy n room xs ≡ rangedBy 0 room xs
   unfolding Calls.rangedBy
   none-given zero h e = refl
   none-given (suc n) h (inl e) = absurd (omega arith)
@@ -349,21 +362,25 @@ module _ (least : ℕ) (b : List ℕ) (lo hi v : ℕ) where
 
   abbrev Ranges : Bool → Bool → Bool → ℕ → Type 0
   Ranges x m e n =
-      ReadingNumbers x m e (lengthOk least b) (FrontWrong least b) ((keyLimit ≤ lo) ⊎ ((keyLimit ≤ hi) ⊎ (hi < lo))) ((last (decode least b) < v) ⊎ (v < decode least b .oldest)) (WrongFrom least b v (λ up n. WrongAcross least b v up hi lo n)) n
+      ReadingNumbers x m e (lengthOk least b) (FrontWrong least b) ((keyLimit ≤ lo) ⊎ ((keyLimit ≤ hi) ⊎ (hi < lo)))
+      ((last (decode least b) < v) ⊎ (v < decode least b .oldest)) (WrongFrom least b v (λ up n. WrongAcross least b v up hi lo n)) n
 
   ranges-by : (ns : List ℕ) → magicOk b ≡ true → editionOk least b ≡ true → Ranges true true true (rangeLent least b lo hi v ns .number)
   unfolding Lent.rangeLent Near.rangeNear
   ranges-by ns m e =
       rw (m, e)
-      (carried _ _ _ _ (frontRight least b) wrong (unreadable (decode least b) v) right (front-clauses least b) (bad-is lo hi) (late-is (decode least b) v) (range-clauses least b v lo hi)
+      (carried _ _ _ _ (frontRight least b) wrong (unreadable (decode least b) v) right (front-clauses least b) (bad-is lo hi)
+      (late-is (decode least b) v) (range-clauses least b v lo hi)
       true true true (lengthOk least b) (given true true) _ (ranged-number (length ns) (rangeOf (decode least b) lo hi v) (given true true))
-      (numbers-are _ _ _ _ (frontRight least b) wrong (unreadable (decode least b) v) right (front-clauses least b) (bad-is lo hi) (late-is (decode least b) v) (range-clauses least b v lo hi)
+      (numbers-are _ _ _ _ (frontRight least b) wrong (unreadable (decode least b) v) right (front-clauses least b) (bad-is lo hi)
+      (late-is (decode least b) v) (range-clauses least b v lo hi)
       (lengthOk least b)))
 
   ranges-done : (ns : List ℕ) → (rangeLent least b lo hi v ns .number ≡ 0) ⊎ (rangeLent least b lo hi v ns .number ≡ 14)
       → rangeLent least b lo hi v ns ≡ listed ns (rangedBy 0 (length ns) (rangeOf (decode least b) lo hi v))
   unfolding Lent.rangeLent Near.rangeNear
-  ranges-done ns e = ap (listed ns) (none-given (length ns) (rangeOf (decode least b) lo hi v) (given (magicOk b) (editionOk least b)) low e)
+  ranges-done ns e =
+      ap (listed ns) (none-given (length ns) (rangeOf (decode least b) lo hi v) (given (magicOk b) (editionOk least b)) low e)
 
   ranges-short : (ns : List ℕ) → rangeLent least b lo hi v ns .number ≡ 14 → length ns < 2 * length (rangeOf (decode least b) lo hi v)
   unfolding Lent.rangeLent Near.rangeNear
@@ -372,7 +389,9 @@ module _ (least : ℕ) (b : List ℕ) (lo hi v : ℕ) where
 module _ (b : List ℕ) (lo hi v : ℕ) (ns : List ℕ) where
   range-number : rangeAny b lo hi v ns .number ≡ byEdition b (λ (n : ℕ). n) (λ (l : ℕ). rangeLent l b lo hi v ns .number)
   unfolding Any.rangeAny
-  range-number = number-by b (λ (r : Listed). r .number) (λ (n : ℕ). record { number = n; count = 0; list = ns }) (λ (l : ℕ). rangeLent l b lo hi v ns) (λ n. refl)
+  range-number =
+      number-by b (λ (r : Listed). r .number) (λ (n : ℕ). record { number = n; count = 0; list = ns }) (λ (l : ℕ). rangeLent l b lo hi v ns)
+      (λ n. refl)
 
   ranges : Ranges (leastOf b) b lo hi v (leb 5 (length b)) (magicOk b) (editionKnown b) (rangeAny b lo hi v ns .number)
   ranges =
@@ -384,10 +403,12 @@ module _ (b : List ℕ) (lo hi v : ℕ) (ns : List ℕ) where
       (λ l m e. ranges-by l b lo hi v ns m e))
 
   -- by the limits of the edition, where the number is 0 or 14
-  late : (ended (toRange lo hi v) b ns .number ≡ 0) ⊎ (ended (toRange lo hi v) b ns .number ≡ 14) → ended (toRange lo hi v) b ns ≡ endedBy (leastOf b) (toRange lo hi v) b ns
+  late : (ended (toRange lo hi v) b ns .number ≡ 0) ⊎ (ended (toRange lo hi v) b ns .number ≡ 14)
+      → ended (toRange lo hi v) b ns ≡ endedBy (leastOf b) (toRange lo hi v) b ns
   late e = ended-goes b ns (toRange lo hi v) refl (past-early b (toRange lo hi v) refl ns (at e))
     where
-      at : (ended (toRange lo hi v) b ns .number ≡ 0) ⊎ (ended (toRange lo hi v) b ns .number ≡ 14) → (ended (toRange lo hi v) b ns .number ≡ 0) ⊎ (4 ≤ ended (toRange lo hi v) b ns .number)
+      at : (ended (toRange lo hi v) b ns .number ≡ 0) ⊎ (ended (toRange lo hi v) b ns .number ≡ 14)
+          → (ended (toRange lo hi v) b ns .number ≡ 0) ⊎ (4 ≤ ended (toRange lo hi v) b ns .number)
       at (inl q) = inl q
       at (inr q) = inr (omega arith)
 

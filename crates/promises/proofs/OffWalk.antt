@@ -26,7 +26,7 @@ use Rattle.model.specs.Lent.{Listed, lookupLent, rangeLent}
 use Rattle.model.specs.Any
 use Rattle.model.specs.Any.{lookupAny, rangeAny}
 use Rattle.model.specs.Ended.{ofLooked, ofListed}
-use Rattle.model.proofs.lists.Members.{In}
+use Rattle.model.specs.Inner.{In}
 use Rattle.near.proofs.laws.Off as near
 use Rattle.near.proofs.laws.OffRange as across
 use Rattle.promises.specs.Accepts.{storeOf}
@@ -94,7 +94,8 @@ module _ (least : ℕ) (some : 1 ≤ least) (b c : List ℕ) (s : SameFront leas
     path-across lo hi zero at n e = e .0
     path-across lo hi (suc up) at n e = (
       e .0,
-      λ r f x i. path-across lo hi up (x .key) (x .value) (each-flat same (λ (y : Pair). rangePath up ps v hi (y .key) (y .value)) (followed at hi (pairsAt v (page ps n))) (e .1) x i),
+      λ r f x i. path-across lo hi up (x .key) (x .value)
+          (each-flat same (λ (y : Pair). rangePath up ps v hi (y .key) (y .value)) (followed at hi (pairsAt v (page ps n))) (e .1) x i),
     )
 
     first-across : (hi up at n : ℕ) → Each same (rangePath up ps v hi at n) → same n
@@ -108,7 +109,8 @@ module _ (least : ℕ) (some : 1 ≤ least) (b c : List ℕ) (s : SameFront leas
       λ up q. path-across lo hi up lo root (subst (λ (m : ℕ). Each same (rangePath (pred m) ps v hi lo root)) q e),
     )
 
-    ranges : (lo hi : ℕ) → SamePages least b c (rangeVisits (decode least b) lo hi v) → (ns : List ℕ) → rangeLent least c lo hi v ns ≡ rangeLent least b lo hi v ns
+    ranges : (lo hi : ℕ) → SamePages least b c (rangeVisits (decode least b) lo hi v) → (ns : List ℕ)
+        → rangeLent least c lo hi v ns ≡ rangeLent least b lo hi v ns
     ranges lo hi e ns = sym (across.range-off least some b c front v lo hi ns (walk-across lo hi e))
 
 -- ---- of the calls: the same front names the same edition
@@ -134,10 +136,13 @@ module _ (b c : List ℕ) (s : SameFront (leastOf b) b c) where
   -- what the calls by each edition give is the same where it is by the edition named
   by-same : {A : Type 0} (refuse f g : ℕ → A) → f (leastOf b) ≡ g (leastOf b) → byEdition c refuse f ≡ byEdition b refuse g
   unfolding byEdition
-  by-same {A} refuse f g h = rw (sym (s .long), sym magic-same, sym (edition-same 4), sym (edition-same 8)) (at (ltb (length b) 5) (magicOk b) (editionOk 4 b) (editionOk 8 b) h)
+  by-same {A} refuse f g h =
+      rw (sym (s .long), sym magic-same, sym (edition-same 4), sym (edition-same 8))
+      (at (ltb (length b) 5) (magicOk b) (editionOk 4 b) (editionOk 8 b) h)
     where
       at : (p q r t : Bool) → f (pick p 4 (pick q (pick r 4 (pick t 8 4)) 4)) ≡ g (pick p 4 (pick q (pick r 4 (pick t 8 4)) 4))
-          → pick p (refuse 1) (pick q (pick r (f 4) (pick t (f 8) (refuse 3))) (refuse 2)) ≡ pick p (refuse 1) (pick q (pick r (g 4) (pick t (g 8) (refuse 3))) (refuse 2))
+          → pick p (refuse 1) (pick q (pick r (f 4) (pick t (f 8) (refuse 3))) (refuse 2))
+          ≡ pick p (refuse 1) (pick q (pick r (g 4) (pick t (g 8) (refuse 3))) (refuse 2))
       at true q r t h = refl
       at false false r t h = refl
       at false true true t h = h
@@ -146,19 +151,31 @@ module _ (b c : List ℕ) (s : SameFront (leastOf b) b c) where
 
   lookup-same : (k v : ℕ) → SamePages (leastOf b) b c (lookupVisits (storeOf b) k v) → lookupAny c k v ≡ lookupAny b k v
   unfolding Any.lookupAny
-  lookup-same k v e = by-same {A = Looked} (λ (n : ℕ). Refused n) (λ (l : ℕ). lookupLent l c k v) (λ (l : ℕ). lookupLent l b k v) (lookups (leastOf b) (some-least b) b c s v k e)
+  lookup-same k v e =
+      by-same {A = Looked} (λ (n : ℕ). Refused n) (λ (l : ℕ). lookupLent l c k v) (λ (l : ℕ). lookupLent l b k v)
+      (lookups (leastOf b) (some-least b) b c s v k e)
 
-  range-same : (lo hi v : ℕ) → SamePages (leastOf b) b c (rangeVisits (storeOf b) lo hi v) → (ns : List ℕ) → rangeAny c lo hi v ns ≡ rangeAny b lo hi v ns
+  range-same : (lo hi v : ℕ) → SamePages (leastOf b) b c (rangeVisits (storeOf b) lo hi v) → (ns : List ℕ)
+      → rangeAny c lo hi v ns ≡ rangeAny b lo hi v ns
   unfolding Any.rangeAny
   range-same lo hi v e ns =
-      by-same {A = Listed} (λ (n : ℕ). record { number = n; count = 0; list = ns }) (λ (l : ℕ). rangeLent l c lo hi v ns) (λ (l : ℕ). rangeLent l b lo hi v ns) (ranges (leastOf b) (some-least b) b c s v lo hi e ns)
+      by-same {A = Listed} (λ (n : ℕ). record { number = n; count = 0; list = ns }) (λ (l : ℕ). rangeLent l c lo hi v ns)
+      (λ (l : ℕ). rangeLent l b lo hi v ns) (ranges (leastOf b) (some-least b) b c s v lo hi e ns)
 
 pub off-the-walk : OffTheWalk
 off-the-walk = record {
   lookup = λ b c s k v e ns.
       let q = lookup-same b c s k v e in
-      record { number = ap (λ (r : Looked). ofLooked b ns r .number) q; results = ap (λ (r : Looked). ofLooked b ns r .results) q; list = refl };
+      record {
+        number = ap (λ (r : Looked). ofLooked b ns r .number) q;
+        results = ap (λ (r : Looked). ofLooked b ns r .results) q;
+        list = refl;
+      };
   range = λ b c s lo hi v e ns.
       let q = range-same b c s lo hi v e ns in
-      record { number = ap (λ (r : Listed). r .number) q; results = ap (λ (r : Listed). ofListed b r .results) q; list = ap (λ (r : Listed). r .list) q };
+      record {
+        number = ap (λ (r : Listed). r .number) q;
+        results = ap (λ (r : Listed). ofListed b r .results) q;
+        list = ap (λ (r : Listed). r .list) q;
+      };
 }

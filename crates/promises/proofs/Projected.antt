@@ -17,7 +17,8 @@ use Rattle.model.specs.Ended.{Asked, ended}
 use Rattle.model.proofs.lists.Lists.{both-true, all-cons, both-intro}
 use Rattle.model.proofs.lists.Members.{not-both}
 use Rattle.promises.specs.Accepts.{Accepts, storeOf}
-use Rattle.promises.specs.Runs.{Turn, turned, runBytes, Kind, making, changing, reading, kindOf, asks, notMaking, fitting, givesUp, staying, inside, each}
+use Rattle.promises.specs.Runs.{Turn, turned, runBytes, Kind, making, changing, reading, kindOf, asks, notMaking, fitting, givesUp}
+use Rattle.promises.specs.Runs.{staying, inside, each}
 use Rattle.promises.proofs.High.{numberBy, Stopping, call-stops}
 use Rattle.promises.proofs.Lending.{kind-asks, by-kind, change-number, Leaves, change-leaves}
 
@@ -39,7 +40,8 @@ with-fits reading cs h g = g
 
 pub calls-fit : (ts : List Turn) → each fitting ts ≡ true → all Settings.fits (callsOf ts) ≡ true
 calls-fit [] h = refl
-calls-fit (t ∷ ts) h = let (x, y) = all-cons (λ (u : Turn). fitting (kindOf (u .call))) t ts h in with-fits (kindOf (t .call)) (callsOf ts) x (calls-fit ts y)
+calls-fit (t ∷ ts) h =
+    let (x, y) = all-cons (λ (u : Turn). fitting (kindOf (u .call))) t ts h in with-fits (kindOf (t .call)) (callsOf ts) x (calls-fit ts y)
 
 pub staying-not : (k : Kind) (n : ℕ) → staying k n ≡ true → notMaking k ≡ true
 staying-not making n h = h
@@ -99,7 +101,8 @@ one-by : (b : List ℕ) → Accepts b → (a : Asked) → notMaking (kindOf a) �
 one-by b ok =
     let l : ℕ = leastOf b in
     by-kind
-    (λ (c : Asked). notMaking (kindOf c) ≡ true → fitting (kindOf c) ≡ true → (ns : List ℕ) → Leaves l b (stored l (kindOf c) (storeOf b)) (ended c b ns .store))
+    (λ (c : Asked). notMaking (kindOf c) ≡ true → fitting (kindOf c) ≡ true → (ns : List ℕ)
+    → Leaves l b (stored l (kindOf c) (storeOf b)) (ended c b ns .store))
     (λ least c x m h ns. absurd (not-both false (subst (λ (k : Kind). notMaking k ≡ true) (x .kind) m) refl))
     (λ c m h ns. subst (λ (k : Kind). Leaves l b (stored l k (storeOf b)) (ended (asks c) b ns .store)) (sym (kind-asks c))
     (change-leaves b ok c (ap fitting (sym (kind-asks c)) ∙ h) ns))
@@ -113,14 +116,16 @@ module _ (least : ℕ) where
 
   -- ---- one after another
 
-  pub ran : (ts : List Turn) → each notMaking ts ≡ true → each fitting ts ≡ true → (b : List ℕ) → Accepts b → leastOf b ≡ least → (y : Both) → y .store ≡ storeOf b
+  pub ran : (ts : List Turn) → each notMaking ts ≡ true → each fitting ts ≡ true → (b : List ℕ) → Accepts b → leastOf b ≡ least → (y : Both)
+      → y .store ≡ storeOf b
       → Leaves least b (together least y (callsOf ts) .store) (runBytes b ts)
   ran [] m h b ok is y e = record { accepts = ok; edition = is; holds = sym e; bytes = λ z. z }
   ran (t ∷ ts) m h b ok is y e =
       let (m₁, m₂) = all-cons (λ (u : Turn). notMaking (kindOf (u .call))) t ts m in
       let (h₁, h₂) = all-cons (λ (u : Turn). fitting (kindOf (u .call))) t ts h in
       let l = one b ok is (t .call) m₁ h₁ (t .list) in
-      let same : bothBy least (kindOf (t .call)) y .store ≡ storeOf (turned b t .store) = by-store least (kindOf (t .call)) y ∙ ap (stored least (kindOf (t .call))) e ∙ sym (l .holds) in
+      let same : bothBy least (kindOf (t .call)) y .store ≡ storeOf (turned b t .store) = by-store least (kindOf (t .call)) y
+      ∙ ap (stored least (kindOf (t .call))) e ∙ sym (l .holds) in
       let rest = ran ts m₂ h₂ (turned b t .store) (l .accepts) (l .edition) (bothBy least (kindOf (t .call)) y) same in
       record {
         accepts = rest .accepts;
@@ -136,35 +141,44 @@ staysBy least making s = true
 staysBy least (changing c) s = Settings.staysIn c (callBy least s c)
 staysBy least reading s = true
 
-change-stays : (b : List ℕ) → Accepts b → (c : Call) (ns : List ℕ) → staying (changing c) (ended (asks c) b ns .number) ≡ true → staysBy (leastOf b) (changing c) (storeOf b) ≡ true
-change-stays b ok c ns h = at (callBy (leastOf b) (storeOf b) c) (subst (λ (n : ℕ). staying (changing c) n ≡ true) (change-number b ok c ns) h) (call-stops (leastOf b) (storeOf b) c)
+change-stays : (b : List ℕ) → Accepts b → (c : Call) (ns : List ℕ) → staying (changing c) (ended (asks c) b ns .number) ≡ true
+    → staysBy (leastOf b) (changing c) (storeOf b) ≡ true
+change-stays b ok c ns h =
+    at (callBy (leastOf b) (storeOf b) c) (subst (λ (n : ℕ). staying (changing c) n ≡ true) (change-number b ok c ns) h)
+    (call-stops (leastOf b) (storeOf b) c)
   where
     at : (r : Came) → staying (changing c) (numberBy r) ≡ true → Stopping c r → Settings.staysIn c r ≡ true
     at (gave (done s)) g u = staying-done c g
     at (gave (refused n)) g u = refl
     at (gaveUp n t) g u = absurd (not-both (givesUp (changing c) n) u (staying-up c n g))
 
-turn-stays : (b : List ℕ) → Accepts b → (a : Asked) (ns : List ℕ) → staying (kindOf a) (ended a b ns .number) ≡ true → staysBy (leastOf b) (kindOf a) (storeOf b) ≡ true
+turn-stays : (b : List ℕ) → Accepts b → (a : Asked) (ns : List ℕ) → staying (kindOf a) (ended a b ns .number) ≡ true
+    → staysBy (leastOf b) (kindOf a) (storeOf b) ≡ true
 turn-stays b ok =
     let l : ℕ = leastOf b in
     by-kind (λ (a : Asked). (ns : List ℕ) → staying (kindOf a) (ended a b ns .number) ≡ true → staysBy l (kindOf a) (storeOf b) ≡ true)
     (λ least a x ns h. ap (λ (q : Kind). staysBy l q (storeOf b)) (x .kind))
-    (λ c ns h. subst (λ (k : Kind). staysBy l k (storeOf b) ≡ true) (sym (kind-asks c)) (change-stays b ok c ns (subst (λ (k : Kind). staying k (ended (asks c) b ns .number) ≡ true) (kind-asks c) h)))
+    (λ c ns h. subst (λ (k : Kind). staysBy l k (storeOf b) ≡ true) (sym (kind-asks c))
+    (change-stays b ok c ns (subst (λ (k : Kind). staying k (ended (asks c) b ns .number) ≡ true) (kind-asks c) h)))
     (λ a k same ns h. ap (λ (q : Kind). staysBy l q (storeOf b)) k)
 
 module _ (least : ℕ) where
-  inside-with : (k : Kind) (y : Both) (cs : List Call) → staysBy least k (y .store) ≡ true → Settings.inside least (bothBy least k y) cs ≡ true → Settings.inside least y (withCall k cs) ≡ true
+  inside-with : (k : Kind) (y : Both) (cs : List Call) → staysBy least k (y .store) ≡ true
+      → Settings.inside least (bothBy least k y) cs ≡ true → Settings.inside least y (withCall k cs) ≡ true
   inside-with making y cs h g = g
   inside-with (changing c) y cs h g = both-intro _ _ h g
   inside-with reading y cs h g = g
 
-  pub calls-inside : (ts : List Turn) → each fitting ts ≡ true → (b : List ℕ) → Accepts b → leastOf b ≡ least → inside b ts ≡ true → (y : Both) → y .store ≡ storeOf b → Settings.inside least y (callsOf ts) ≡ true
+  pub calls-inside : (ts : List Turn) → each fitting ts ≡ true → (b : List ℕ) → Accepts b → leastOf b ≡ least → inside b ts ≡ true
+      → (y : Both) → y .store ≡ storeOf b → Settings.inside least y (callsOf ts) ≡ true
   calls-inside [] h b ok is i y e = refl
   calls-inside (t ∷ ts) h b ok is i y e =
       let (i₁, i₂) = both-true (staying (kindOf (t .call)) (turned b t .number)) (inside (turned b t .store) ts) i in
       let (h₁, h₂) = all-cons (λ (u : Turn). fitting (kindOf (u .call))) t ts h in
       let l = one least b ok is (t .call) (staying-not (kindOf (t .call)) (turned b t .number) i₁) h₁ (t .list) in
-      let same : bothBy least (kindOf (t .call)) y .store ≡ storeOf (turned b t .store) = by-store least (kindOf (t .call)) y ∙ ap (stored least (kindOf (t .call))) e ∙ sym (l .holds) in
-      let stays : staysBy least (kindOf (t .call)) (storeOf b) ≡ true = subst (λ (n : ℕ). staysBy n (kindOf (t .call)) (storeOf b) ≡ true) is (turn-stays b ok (t .call) (t .list) i₁) in
+      let same : bothBy least (kindOf (t .call)) y .store ≡ storeOf (turned b t .store) = by-store least (kindOf (t .call)) y
+      ∙ ap (stored least (kindOf (t .call))) e ∙ sym (l .holds) in
+      let stays : staysBy least (kindOf (t .call)) (storeOf b) ≡ true
+      = subst (λ (n : ℕ). staysBy n (kindOf (t .call)) (storeOf b) ≡ true) is (turn-stays b ok (t .call) (t .list) i₁) in
       inside-with (kindOf (t .call)) y (callsOf ts) (subst (λ (s : Store). staysBy least (kindOf (t .call)) s ≡ true) (sym e) stays)
       (calls-inside ts h₂ (turned b t .store) (l .accepts) (l .edition) i₂ (bothBy least (kindOf (t .call)) y) same)

@@ -1,5 +1,6 @@
 -- The promises, each under its name: what it says stands in specs/Demand1, Demand2, Levels, Room, Demand3, in a file for each request of
--- document 02 (OldReadings, Near, Bench, Differences, Lives, Releases, Returns, Apart, Converts, LiveCounts, NamedSettings), in States, Replayed and Fakes.
+-- document 02 (OldReadings, Near, Bench, Differences, Lives, Releases, Returns, Apart, Converts, LiveCounts, NamedSettings), in States,
+-- Replayed and Fakes.
 -- Assumes nothing.
 use Prim.Native.Nat.{ℕ}
 use native.Mathlib.Omega.{arith}
@@ -22,7 +23,8 @@ use Rattle.promises.specs.Accepts.{Accepts, storeOf}
 use Rattle.promises.specs.Runs.{making, changing, reading, kindOf}
 use Rattle.promises.specs.Way.{ruledOf}
 use Rattle.promises.specs.Demand1.{Unique, Refused, Blank, Judges, Untrusted, OneForm, FreshMade}
-use Rattle.promises.specs.Demand2.{EncodedSound, AcceptedSound, SoundStays, FreshSound, History, HistoryLent, Found, SettingsChange, AnswersStay, ViewsStay, EditionStays, ByTheRules, ReadsOnly, Balanced, Lacking}
+use Rattle.promises.specs.Demand2.{EncodedSound, AcceptedSound, SoundStays, FreshSound, History, HistoryLent, Found, SettingsChange}
+use Rattle.promises.specs.Demand2.{AnswersStay, ViewsStay, EditionStays, ByTheRules, ReadsOnly, Balanced, Lacking}
 use Rattle.promises.specs.Apart.{EditionsApart}
 use Rattle.promises.specs.Levels.{Levels}
 use Rattle.promises.specs.Room.{NoRangeOutgrows}
@@ -106,7 +108,8 @@ sound-stays b ok t f = call-accepts b ok (t .call) f (t .list)
 
 pub fresh-sound : FreshSound
 fresh-sound =
-    by-kind (λ (c : Asked). kindOf c ≡ making → (b ns : List ℕ) → ended c b ns .number ≡ 0 → Accepts (ended c b ns .store)) (λ least c m k b ns given. made least c m b ns given)
+    by-kind (λ (c : Asked). kindOf c ≡ making → (b ns : List ℕ) → ended c b ns .number ≡ 0 → Accepts (ended c b ns .store))
+    (λ least c m k b ns given. made least c m b ns given)
     (λ d e. let f : changing d ≡ making = sym (kind-asks d) ∙ e in let z : _≡_ {A = ℕ} 0 1 = cc in absurd (omega arith))
     (λ c k same e. let f : reading ≡ making = sym k ∙ e in let z : _≡_ {A = ℕ} 0 1 = cc in absurd (omega arith))
   where
@@ -154,8 +157,10 @@ by-the-rules b bytes ok c ns = ap (λ (e : Ended). e .store) (change-is b ok c n
 
 pub reads-only : ReadsOnly
 reads-only c b ns =
-    by-kind (λ (a : Asked). kindOf a ≡ reading → ended a b ns .store ≡ b) (λ least a m e. let f : making ≡ reading = sym (m .kind) ∙ e in let z : _≡_ {A = ℕ} 0 1 = cc in absurd (omega arith))
-    (λ d e. let f : changing d ≡ reading = sym (kind-asks d) ∙ e in let z : _≡_ {A = ℕ} 0 1 = cc in absurd (omega arith)) (λ a e same i. same b ns) c
+    by-kind (λ (a : Asked). kindOf a ≡ reading → ended a b ns .store ≡ b)
+    (λ least a m e. let f : making ≡ reading = sym (m .kind) ∙ e in let z : _≡_ {A = ℕ} 0 1 = cc in absurd (omega arith))
+    (λ d e. let f : changing d ≡ reading = sym (kind-asks d) ∙ e in let z : _≡_ {A = ℕ} 0 1 = cc in absurd (omega arith))
+    (λ a e same i. same b ns) c
 
 pub balanced : Balanced
 balanced b ok = way.balanced-in (ruledOf b) (four b) (held-sound b ok)

@@ -19,15 +19,18 @@ use Rattle.model.specs.Layout.{encode}
 use Rattle.model.specs.Editions.{leastOf, lentNumber}
 use Rattle.model.specs.Climb.{Result, done}
 use Rattle.model.specs.Calls
-use Rattle.model.specs.Calls.{rule, firstOf, numbered, beyond, unreadable, pruneTests, prunedPage, needed, pruned, prune, lookedBy, lookedNumber}
+use Rattle.model.specs.Calls.{rule, firstOf, numbered, beyond, unreadable, pruneTests, prunedPage, needed, pruned, prune, lookedBy}
+use Rattle.model.specs.Calls.{lookedNumber}
 use Rattle.model.specs.Return.{Came, gave}
 use Rattle.model.specs.Histories.{begins, prunes, callBy, after}
 use Rattle.model.specs.Lent
 use Rattle.model.specs.Lent.{leftBy, leaving}
 use Rattle.model.specs.Ended.{toOpen, toPrune, toLookup, Ended, ofOutcome, ended}
-use Rattle.model.proofs.lists.Members.{holds-true, not-both, bool-cases, In, has-in, in-has}
+use Rattle.model.specs.Inner.{In}
+use Rattle.model.specs.ByRule.{Sound}
+use Rattle.model.proofs.lists.Members.{holds-true, not-both, bool-cases, has-in, in-has, either-right}
 use Rattle.model.proofs.tree.GroupPages.{in-frees}
-use Rattle.model.proofs.sound.ByRule.{kept-of, Sound, from-tests, old-current, used-in, high-used}
+use Rattle.model.proofs.sound.ByRule.{kept-of, from-tests, old-current, used-in, high-used}
 use Rattle.model.proofs.sound.Ready.{numbered-by}
 use Rattle.model.proofs.theorems.Editions.{least-is, ended-goes, ended-refuses}
 use Rattle.promises.specs.Accepts.{Accepts, storeOf}
@@ -69,7 +72,8 @@ never b v ns e z = at (lentNumber b) refl
 -- ---- its number
 
 module _ (b : List ℕ) (ok : Accepts b) (v : ℕ) (ns : List ℕ) where
-  number-is : ended (toPrune v) b ns .number ≡ firstOf (rule 3 (leb (leastOf b) 4) ∷ pruneTests (storeOf b .oldest) (storeOf b .current) (storeOf b .opened) v)
+  number-is : ended (toPrune v) b ns .number ≡ firstOf
+      (rule 3 (leb (leastOf b) 4) ∷ pruneTests (storeOf b .oldest) (storeOf b .current) (storeOf b .opened) v)
   number-is = answers (fromLent b) (lent-agreed b ok) .prunes v ns
 
   none : (x y z : Bool) → firstOf (rule 3 x ∷ rule 6 y ∷ rule 8 z ∷ []) ≡ 0 → (y ≡ false) × (z ≡ false)
@@ -85,7 +89,8 @@ prunable b v ns z = at (leb (leastOf b) 4) refl
     at true e = absurd (never b v ns e z)
     at false e =
         let ok : Accepts b = zero-accepts (toPrune v) b ns (ap not e) z in
-        let (p, q) = none b ok v ns (leb (leastOf b) 4) (beyond (storeOf b .current) (storeOf b .oldest) v) (storeOf b .opened) (sym (number-is b ok v ns) ∙ z) in
+        let (p, q) = none b ok v ns (leb (leastOf b) 4) (beyond (storeOf b .current) (storeOf b .oldest) v) (storeOf b .opened)
+        (sym (number-is b ok v ns) ∙ z) in
         let k = kept-of (storeOf b) v p in
         record { accepted = ok; edition = of-two b e; from = k .from; upto = k .upto; shut = q }
 
@@ -97,14 +102,17 @@ module _ (b : List ℕ) (v : ℕ) (p : Prunable b v) where
   within : beyond (storeOf b .current) (storeOf b .oldest) v ≡ false
   within = ap₂ _||_ (le-ltb (storeOf b .current) v (p .upto)) (le-ltb v (storeOf b .oldest) (p .from))
 
-tests-none : (b : List ℕ) (v : ℕ) → Prunable b v → firstOf (rule 3 (leb (leastOf b) 4) ∷ pruneTests (storeOf b .oldest) (storeOf b .current) (storeOf b .opened) v) ≡ 0
+tests-none : (b : List ℕ) (v : ℕ) → Prunable b v → firstOf
+    (rule 3 (leb (leastOf b) 4) ∷ pruneTests (storeOf b .oldest) (storeOf b .current) (storeOf b .opened) v) ≡ 0
 tests-none b v p = λ i. firstOf (rule 3 (second b v p i) ∷ rule 6 (within b v p i) ∷ rule 8 (p .shut i) ∷ [])
 
 prune-done : PruneDone
 prune-done b v ns = (prunable b v ns, λ p. number-is b (p .accepted) v ns ∙ tests-none b v p)
 
 prune-first : PruneFirst
-prune-first b ok e v ns = number-is b ok v ns ∙ ap (λ (t : Bool). firstOf (rule 3 t ∷ pruneTests (storeOf b .oldest) (storeOf b .current) (storeOf b .opened) v)) (le-leb (leastOf b) 4 (omega (arith, e)))
+prune-first b ok e v ns =
+    number-is b ok v ns ∙ ap (λ (t : Bool). firstOf (rule 3 t ∷ pruneTests (storeOf b .oldest) (storeOf b .current) (storeOf b .opened) v))
+    (le-leb (leastOf b) 4 (omega (arith, e)))
 
 -- ---- what it leaves
 
@@ -127,20 +135,29 @@ idle-slots v [] = refl
 idle-slots v (x ∷ []) = refl
 idle-slots v (x ∷ y ∷ zs) = at (leb (y .version) v) refl (idle-slots v (y ∷ zs))
   where
-    at : (t : Bool) → leb (y .version) v ≡ t → needed v (needed v (y ∷ zs)) ≡ needed v (y ∷ zs) → needed v (pick t (needed v (y ∷ zs)) (x ∷ y ∷ zs)) ≡ pick t (needed v (y ∷ zs)) (x ∷ y ∷ zs)
+    at : (t : Bool) → leb (y .version) v ≡ t → needed v (needed v (y ∷ zs)) ≡ needed v (y ∷ zs)
+        → needed v (pick t (needed v (y ∷ zs)) (x ∷ y ∷ zs)) ≡ pick t (needed v (y ∷ zs)) (x ∷ y ∷ zs)
     at true e ih = ih
     at false e ih = ap (λ (t : Bool). pick t (needed v (y ∷ zs)) (x ∷ y ∷ zs)) e
 
 idle : (s : Store) (v : ℕ) → pruned (pruned s v) v ≡ pruned s v
 unfolding pruned
-idle s v = λ i. record { current = s .current; opened = s .opened; oldest = v; slots = idle-slots v (s .slots) i; pages = idle-pages v (s .pages) i }
+idle s v =
+    λ i. record {
+      current = s .current;
+      opened = s .opened;
+      oldest = v;
+      slots = idle-slots v (s .slots) i;
+      pages = idle-pages v (s .pages) i;
+    }
 
 -- ---- the free pages after it
 
 free-in : (k : ℕ) (ps : List Page) (i : ℕ) → i < length ps → isFree (page ps i) ≡ true → In (k + i) (freeFrom k ps)
 free-in k [] i h e = absurd (omega arith)
 free-in k (p ∷ ps) zero h e = subst (λ (b : Bool). In (k + 0) (keep b k (freeFrom (suc k) ps))) (sym e) (inl (omega arith))
-free-in k (p ∷ ps) (suc i) h e = at (isFree p) (subst (λ (n : ℕ). In n (freeFrom (suc k) ps)) next-is (free-in (suc k) ps i (omega arith) e))
+free-in k (p ∷ ps) (suc i) h e =
+    at (isFree p) (subst (λ (n : ℕ). In n (freeFrom (suc k) ps)) next-is (free-in (suc k) ps i (omega arith) e))
   where
     next-is : suc k + i ≡ k + suc i
     next-is = omega arith
@@ -157,17 +174,20 @@ frees-in ps n five inn e =
     is : 5 + (n - 5) ≡ n
     is = omega arith
 
-module _ (least : ℕ) (s : Store) (d : Sound least s) (v : ℕ) (qs : List Page) (long : length qs ≡ length (s .pages)) (is : (n : ℕ) → page qs n ≡ prunedPage v (page (s .pages) n)) where
+module _ (least : ℕ) (s : Store) (d : Sound least s) (v : ℕ) (qs : List Page) (long : length qs ≡ length (s .pages))
+    (is : (n : ℕ) → page qs n ≡ prunedPage v (page (s .pages) n)) where
   abbrev ps : List Page
   ps = s .pages
 
   freed-at : (n : ℕ) → page (s .pages) n .end ≤ v → page qs n ≡ free
   freed-at n h = is n ∙ ap (λ (t : Bool). pick t free (page ps n)) (le-leb (page ps n .end) v h)
 
-  was-spare : (n : ℕ) → has n (freeOnes qs) ≡ true → (has n (freeOnes (s .pages)) ≡ true) ⊎ ((isFree (page (s .pages) n) ≡ false) × (page (s .pages) n .end ≤ v))
+  was-spare : (n : ℕ) → has n (freeOnes qs) ≡ true
+      → (has n (freeOnes (s .pages)) ≡ true) ⊎ ((isFree (page (s .pages) n) ≡ false) × (page (s .pages) n .end ≤ v))
   was-spare n h = at (bool-cases (isFree (page ps n))) (leb (page ps n .end) v) refl (in-frees qs n (has-in n (freeOnes qs) h))
     where
-      at : (isFree (page ps n) ≡ true) ⊎ (isFree (page ps n) ≡ false) → (t : Bool) → leb (page ps n .end) v ≡ t → (page qs n .level ≡ 0) × (5 ≤ n) × (n < length qs)
+      at : (isFree (page ps n) ≡ true) ⊎ (isFree (page ps n) ≡ false) → (t : Bool) → leb (page ps n .end) v ≡ t
+          → (page qs n .level ≡ 0) × (5 ≤ n) × (n < length qs)
           → (has n (freeOnes ps) ≡ true) ⊎ ((isFree (page ps n) ≡ false) × (page ps n .end ≤ v))
       at (inl z) t e (a, five, inn) = inl (frees-in ps n five (omega (arith, long, inn)) z)
       at (inr u) true e q = inr (u, leb-true (page ps n .end) v e)
@@ -175,7 +195,8 @@ module _ (least : ℕ) (s : Store) (d : Sound least s) (v : ℕ) (qs : List Page
           let same : page qs n ≡ page ps n = is n ∙ ap (λ (t : Bool). pick t free (page ps n)) e in
           absurd (not-both (isFree (page ps n)) (eq-eqb (page ps n .level) 0 (ap (λ (p : Page). p .level) (sym same) ∙ a)) u)
 
-  is-spare : (n : ℕ) → (has n (freeOnes (s .pages)) ≡ true) ⊎ ((isFree (page (s .pages) n) ≡ false) × (page (s .pages) n .end ≤ v)) → has n (freeOnes qs) ≡ true
+  is-spare : (n : ℕ) → (has n (freeOnes (s .pages)) ≡ true) ⊎ ((isFree (page (s .pages) n) ≡ false) × (page (s .pages) n .end ≤ v))
+      → has n (freeOnes qs) ≡ true
   is-spare n (inl h) =
       let (a, five, inn) = in-frees ps n (has-in n (freeOnes ps) h) in
       let z : page ps n ≡ free = d .zeros n (eq-eqb (page ps n .level) 0 a) in
@@ -187,7 +208,8 @@ module _ (least : ℕ) (s : Store) (d : Sound least s) (v : ℕ) (qs : List Page
 open-pages : (least : ℕ) (s : Store) → after s (callBy least s begins) .store .pages ≡ s .pages
 unfolding Calls.begin
 open-pages least s =
-    numbered-by (λ (r : Result). after s (gave r) .store .pages ≡ s .pages) (rule 8 (s .opened) ∷ rule 9 (leb 1048574 (s .current)) ∷ []) (done (record { current = s .current; opened = true; oldest = s .oldest; slots = s .slots; pages = s .pages })) (λ n. refl) (λ f. refl)
+    numbered-by (λ (r : Result). after s (gave r) .store .pages ≡ s .pages) (rule 8 (s .opened) ∷ rule 9 (leb 1048574 (s .current)) ∷ [])
+    (done (record { current = s .current; opened = true; oldest = s .oldest; slots = s .slots; pages = s .pages })) (λ n. refl) (λ f. refl)
 
 -- ---- the call
 
@@ -216,7 +238,8 @@ module _ (b : List ℕ) (v : ℕ) (p : Prunable b v) (ns : List ℕ) where
   left-so : Leaves (leastOf b) b (pruned (storeOf b) v) (encode (leastOf b) (pruned (storeOf b) v))
   left-so =
       subst (λ (x : Ended). Leaves (leastOf b) b (pruned st v) (x .store)) (whole-is b v p ns)
-      (subst (λ (t : Store). Leaves (leastOf b) b t (ended (toPrune v) b ns .store)) (ap (λ (c : Came). after st c .store) (call-is b v p ns)) (change-leaves b (p .accepted) (prunes v) refl ns))
+      (subst (λ (t : Store). Leaves (leastOf b) b t (ended (toPrune v) b ns .store))
+      (ap (λ (c : Came). after st c .store) (call-is b v p ns)) (change-leaves b (p .accepted) (prunes v) refl ns))
 
   holds : storeOf (encode (leastOf b) (pruned (storeOf b) v)) ≡ pruned (storeOf b) v
   holds = left-so .holds
@@ -240,7 +263,8 @@ module _ (b : List ℕ) (v : ℕ) (p : Prunable b v) (ns : List ℕ) where
   page-is : (n : ℕ) → page (storeOf (encode (leastOf b) (pruned (storeOf b) v)) .pages) n ≡ prunedPage v (page (storeOf b .pages) n)
   unfolding pruned
   page-is n =
-      ap (λ (t : Store). page (t .pages) n) holds ∙ ap (λ (q : Page). getD (map (prunedPage v) (st .pages)) n q) (sym (ap (λ (t : Bool). pick t free free) (le-leb 0 v (omega arith))))
+      ap (λ (t : Store). page (t .pages) n) holds
+      ∙ ap (λ (q : Page). getD (map (prunedPage v) (st .pages)) n q) (sym (ap (λ (t : Bool). pick t free free) (le-leb 0 v (omega arith))))
       ∙ List·getD-map (prunedPage v) (st .pages) n free
 
   -- the same bytes as the calls leave
@@ -254,22 +278,22 @@ module _ (b : List ℕ) (v : ℕ) (p : Prunable b v) (ns : List ℕ) where
   older u h = omega (arith, ap (λ (x : List ℕ). storeOf x .oldest) ran, old-is)
 
   views : (u : ℕ) → v ≤ u → u ≤ storeOf b .current → SameView (storeOf b) (storeOf (encode (leastOf b) (pruned (storeOf b) v))) u
-  views u h k = subst (λ (x : List ℕ). SameView (storeOf b) (storeOf x) u) ran (views-stay b (p .accepted) (turn ∷ []) refl refl u (older u h) k)
+  views u h k =
+      subst (λ (x : List ℕ). SameView (storeOf b) (storeOf x) u) ran (views-stay b (p .accepted) (turn ∷ []) refl refl u (older u h) k)
 
   says : (u : ℕ) → v ≤ u → u ≤ storeOf b .current → SameAnswers b (encode (leastOf b) (pruned (storeOf b) v)) u
   says u h k = subst (λ (x : List ℕ). SameAnswers b x u) ran (answers-stay b (p .accepted) (turn ∷ []) refl refl u (older u h) k)
 
-  six : (n u : ℕ) → leb keyLimit n ≡ false → unreadable (storeOf b′) u ≡ true → (o : _) → lookedNumber (lookedBy (firstOf (rule 5 (leb keyLimit n) ∷ rule 6 (unreadable (storeOf b′) u) ∷ [])) o) ≡ 6
+  six : (n u : ℕ) → leb keyLimit n ≡ false → unreadable (storeOf b′) u ≡ true → (o : _)
+      → lookedNumber (lookedBy (firstOf (rule 5 (leb keyLimit n) ∷ rule 6 (unreadable (storeOf b′) u) ∷ [])) o) ≡ 6
   six n u e f o = rw (e, f)
 
   gone : (k u : ℕ) (ms : List ℕ) → k < keyLimit → u < v → ended (toLookup k u) (encode (leastOf b) (pruned (storeOf b) v)) ms .number ≡ 6
   gone k u ms low h =
-      let late : beyond (lastOf (storeOf b′ .opened) (storeOf b′ .current)) (storeOf b′ .oldest) u ≡ true = or-true (ltb (last (storeOf b′)) u) (lt-ltb u (storeOf b′ .oldest) (omega (arith, old-is))) in
-      ap (λ (x : Ended). x .number) (answers (fromLent b′) (lent-agreed b′ (left-so .accepts)) .lookup k u ms) ∙ six k u (lt-leb keyLimit k low) late _
-    where
-      or-true : (x : Bool) {y : Bool} → y ≡ true → (x || y) ≡ true
-      or-true true e = refl
-      or-true false e = e
+      let late : beyond (lastOf (storeOf b′ .opened) (storeOf b′ .current)) (storeOf b′ .oldest) u ≡ true
+      = either-right (ltb (last (storeOf b′)) u) _ (lt-ltb u (storeOf b′ .oldest) (omega (arith, old-is))) in
+      ap (λ (x : Ended). x .number) (answers (fromLent b′) (lent-agreed b′ (left-so .accepts)) .lookup k u ms)
+      ∙ six k u (lt-leb keyLimit k low) late _
 
   again : (ms : List ℕ) → ended (toPrune v) (encode (leastOf b) (pruned (storeOf b) v)) ms
       ≡ record { number = 0; results = []; store = encode (leastOf b) (pruned (storeOf b) v); list = ms }
@@ -281,7 +305,9 @@ module _ (b : List ℕ) (v : ℕ) (p : Prunable b v) (ns : List ℕ) where
         upto = omega (arith, current-is, p .upto);
         shut = opened-is ∙ p .shut;
       } in
-      whole-is b′ v q ms ∙ ap (λ (x : List ℕ). record { number = 0; results = []; store = x; list = ms }) (ap (λ (n : ℕ). encode n (pruned (storeOf b′) v)) (left-so .edition) ∙ ap (encode (leastOf b)) (ap (λ (t : Store). pruned t v) holds ∙ idle st v))
+      whole-is b′ v q ms ∙ ap (λ (x : List ℕ). record { number = 0; results = []; store = x; list = ms })
+      (ap (λ (n : ℕ). encode n (pruned (storeOf b′) v)) (left-so .edition)
+      ∙ ap (encode (leastOf b)) (ap (λ (t : Store). pruned t v) holds ∙ idle st v))
 
   long-is : length (storeOf (encode (leastOf b) (pruned (storeOf b) v)) .pages) ≡ length (storeOf b .pages)
   unfolding pruned
@@ -291,10 +317,15 @@ module _ (b : List ℕ) (v : ℕ) (p : Prunable b v) (ns : List ℕ) where
   was-sound = from-tests (leastOf b) st (holds-true (sound (leastOf b) st) (held-sound b (p .accepted)))
 
   spare : (n : ℕ) → has n (freeOnes (storeOf (encode (leastOf b) (pruned (storeOf b) v)) .pages)) ≡ true
-      ↔ ((has n (freeOnes (storeOf b .pages)) ≡ true) ⊎ ((isFree (page (storeOf b .pages) n) ≡ false) × (page (storeOf b .pages) n .end ≤ v)))
-  spare n = (was-spare (leastOf b) st was-sound v (storeOf b′ .pages) long-is page-is n, is-spare (leastOf b) st was-sound v (storeOf b′ .pages) long-is page-is n)
+      ↔ ((has n (freeOnes (storeOf b .pages)) ≡ true)
+      ⊎ ((isFree (page (storeOf b .pages) n) ≡ false) × (page (storeOf b .pages) n .end ≤ v)))
+  spare n = (
+    was-spare (leastOf b) st was-sound v (storeOf b′ .pages) long-is page-is n,
+    is-spare (leastOf b) st was-sound v (storeOf b′ .pages) long-is page-is n,
+  )
 
-  begun : (ms : List ℕ) → storeOf (ended toOpen (encode (leastOf b) (pruned (storeOf b) v)) ms .store) .pages ≡ storeOf (encode (leastOf b) (pruned (storeOf b) v)) .pages
+  begun : (ms : List ℕ) → storeOf (ended toOpen (encode (leastOf b) (pruned (storeOf b) v)) ms .store) .pages
+      ≡ storeOf (encode (leastOf b) (pruned (storeOf b) v)) .pages
   begun ms = ap (λ (t : Store). t .pages) (change-leaves b′ (left-so .accepts) begins refl ms .holds) ∙ open-pages (leastOf b′) (storeOf b′)
 
   pub left-pruned : Lacking → Pruned b v (encode (leastOf b) (pruned (storeOf b) v))
@@ -334,10 +365,18 @@ idle-so b m e shut ns =
     d = from-tests (leastOf b) (storeOf b) (holds-true (sound (leastOf b) (storeOf b)) (held-sound b (m .accepted)))
 
     q : Prunable b (storeOf b .oldest)
-    q = record { accepted = m .accepted; edition = e; from = omega arith; upto = old-current (leastOf b) (storeOf b) (d .old-low); shut = shut }
+    q =
+        record {
+          accepted = m .accepted;
+          edition = e;
+          from = omega arith;
+          upto = old-current (leastOf b) (storeOf b) (d .old-low);
+          shut = shut;
+        }
 
 prune-idle : PruneIdle
 prune-idle least e n low high ts f b z = idle-so b (subst MadeSo z (made-by-calls least e n low high ts f))
 
 pub prunes-keep : Lacking → Prunes
-prunes-keep lacking = record { done = prune-done; first = prune-first; leaves = prune-leaves lacking; idle = prune-idle; never-seven = never-seven }
+prunes-keep lacking =
+    record { done = prune-done; first = prune-first; leaves = prune-leaves lacking; idle = prune-idle; never-seven = never-seven }

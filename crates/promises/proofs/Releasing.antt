@@ -19,13 +19,14 @@ use Rattle.model.specs.Walk.{keyLimit, find, settings}
 use Rattle.model.specs.Same.{samePairs}
 use Rattle.model.specs.Layout.{bit}
 use Rattle.model.specs.Editions.{leastOf}
-use Rattle.model.specs.Calls.{isSome, unchanged, rule, benchLimit, firstOf, lookedAt, lookedBy, lookedFound, lookedValue}
+use Rattle.model.specs.Calls.{unchanged, rule, benchLimit, firstOf, lookedAt, lookedBy, lookedFound, lookedValue}
 use Rattle.model.specs.Histories.{commits}
 use Rattle.model.specs.Settings.{Machine, edited}
 use Rattle.model.specs.Ended.{toCommit, toInsert, toDelete, toLookup, toDifference, Ended, ofLooked, ended}
 use Rattle.model.proofs.sound.ByRule.{of-readable, old-current}
 use Rattle.model.proofs.lists.Lists.{both-true}
 use Rattle.model.proofs.lists.Members.{not-both}
+use Rattle.model.proofs.lists.Bools.{is-none}
 use Rattle.model.proofs.reading.Lookups.{settings-rise, settings-low}
 use Rattle.model.proofs.reading.Same.{same-equal, equal-same, same-none, finds-equal, enter-undone}
 use Rattle.model.proofs.theorems.Unique.{refused}
@@ -78,11 +79,13 @@ module _ (b ns : List ℕ) where
   commits-so : Commits b ns
   commits-so = record {
     empty = (
-      λ e. let ok = fifteen-accepts e in let (o, q) = first-fifteen (s .opened) (unchanged s) (sym (number-is ok) ∙ e) in (record { accepted = ok; opened = o }, same-settings s q),
+      λ e. let ok = fifteen-accepts e in let (o, q) = first-fifteen (s .opened) (unchanged s) (sym (number-is ok) ∙ e) in
+          (record { accepted = ok; opened = o }, same-settings s q),
       λ (o, q). number-is (o .accepted) ∙ ap₂ (λ (x y : Bool). firstOf (commitTests x y)) (o .opened) (equal-settings s q),
     );
     done = (
-      λ e. let ok = zero-accepts toCommit b ns refl e in let (o, q) = first-none (s .opened) (unchanged s) (sym (number-is ok) ∙ e) in (record { accepted = ok; opened = o }, λ z. not-both (unchanged s) (equal-settings s z) q),
+      λ e. let ok = zero-accepts toCommit b ns refl e in let (o, q) = first-none (s .opened) (unchanged s) (sym (number-is ok) ∙ e) in
+          (record { accepted = ok; opened = o }, λ z. not-both (unchanged s) (equal-settings s z) q),
       λ (o, q). number-is (o .accepted) ∙ ap (λ (x : Bool). firstOf (commitTests x (unchanged s))) (o .opened) ∙ by (unchanged s) refl q,
     );
     nothing = λ e. refused toCommit b ns (ended toCommit b ns) refl (λ (z : n ≡ 0). omega arith) (λ x. late e (x .1));
@@ -98,7 +101,8 @@ module _ (b ns : List ℕ) where
 
 -- ---- key for key
 
-answer-tells : (o p : Option ℕ) → bit (lookedFound (lookedAt o)) ∷ lookedValue (lookedAt o) ∷ [] ≡ bit (lookedFound (lookedAt p)) ∷ lookedValue (lookedAt p) ∷ [] → o ≡ p
+answer-tells : (o p : Option ℕ) → bit (lookedFound (lookedAt o)) ∷ lookedValue (lookedAt o) ∷ []
+    ≡ bit (lookedFound (lookedAt p)) ∷ lookedValue (lookedAt p) ∷ [] → o ≡ p
 answer-tells none none e = refl
 answer-tells none (some y) e = absurd (omega (arith, ap (λ (xs : List ℕ). getD xs 0 0) e))
 answer-tells (some x) none e = absurd (omega (arith, ap (λ (xs : List ℕ). getD xs 0 0) e))
@@ -118,10 +122,12 @@ module _ (b : List ℕ) (o : OpenAccepted b) where
   kept-low = old-current (leastOf b) t (a .agrees .is-sound .old-low)
 
   -- what a lookup of either version says
-  looked : (k v : ℕ) (ns : List ℕ) → t .oldest ≤ v → v ≤ next t → ended (toLookup k v) b ns ≡ ofLooked b ns (lookedBy (firstOf (rule 5 (leb keyLimit k) ∷ rule 6 false ∷ [])) (find k (settings t v)))
+  looked : (k v : ℕ) (ns : List ℕ) → t .oldest ≤ v → v ≤ next t
+      → ended (toLookup k v) b ns ≡ ofLooked b ns (lookedBy (firstOf (rule 5 (leb keyLimit k) ∷ rule 6 false ∷ [])) (find k (settings t v)))
   looked k v ns from h =
       answers (fromLent b) a .lookup k v ns
-      ∙ ap (λ (q : Bool). ofLooked b ns (lookedBy (firstOf (rule 5 (leb keyLimit k) ∷ rule 6 q ∷ [])) (find k (settings t v)))) (of-readable t v (record { from = from; upto = omega (arith, last-is) }))
+      ∙ ap (λ (q : Bool). ofLooked b ns (lookedBy (firstOf (rule 5 (leb keyLimit k) ∷ rule 6 q ∷ [])) (find k (settings t v))))
+      (of-readable t v (record { from = from; upto = omega (arith, last-is) }))
 
   say-same : Equal t → (k : ℕ) (ns : List ℕ) → SaysSame (ended (toLookup k (next t)) b ns) (ended (toLookup k (t .current)) b ns)
   say-same e k ns =
@@ -129,23 +135,33 @@ module _ (b : List ℕ) (o : OpenAccepted b) where
       = looked k (next t) ns (omega (arith, kept-low)) (omega arith)
       ∙ ap (λ (us : List Pair). ofLooked b ns (lookedBy (firstOf (rule 5 (leb keyLimit k) ∷ rule 6 false ∷ [])) (find k us))) e
       ∙ sym (looked k (t .current) ns (omega (arith, kept-low)) (omega arith)) in
-      record { number = ap (λ (x : Ended). x .number) same; results = ap (λ (x : Ended). x .results) same; list = ap (λ (x : Ended). x .list) same }
+      record {
+        number = ap (λ (x : Ended). x .number) same;
+        results = ap (λ (x : Ended). x .results) same;
+        list = ap (λ (x : Ended). x .list) same;
+      }
 
   find-by : ((k : ℕ) (ns : List ℕ) → SaysSame (ended (toLookup k (next t)) b ns) (ended (toLookup k (t .current)) b ns))
       → (k : ℕ) → within 0 keyLimit k ≡ true → find k (settings t (next t)) ≡ find k (settings t (t .current))
   find-by f k h =
       let low : leb keyLimit k ≡ false = lt-leb keyLimit k (ltb-true k keyLimit (both-true (leb 0 k) (ltb k keyLimit) h .1)) in
-      answer-tells (find k (settings t (next t))) (find k (settings t (t .current))) (sym (found low (next t) (omega (arith, kept-low)) (omega arith)) ∙ f k [] .results ∙ found low (t .current) kept-low (omega arith))
+      answer-tells (find k (settings t (next t))) (find k (settings t (t .current)))
+      (sym (found low (next t) (omega (arith, kept-low)) (omega arith)) ∙ f k [] .results ∙ found low (t .current) kept-low (omega arith))
     where
       found : leb keyLimit k ≡ false → (v : ℕ) → t .oldest ≤ v → v ≤ next t
-          → ended (toLookup k v) b [] .results ≡ bit (lookedFound (lookedAt (find k (settings t v)))) ∷ lookedValue (lookedAt (find k (settings t v))) ∷ []
-      found low v from g = ap (λ (x : Ended). x .results) (looked k v [] from g ∙ ap (λ (q : Bool). ofLooked b [] (lookedBy (firstOf (rule 5 q ∷ rule 6 false ∷ [])) (find k (settings t v)))) low)
+          → ended (toLookup k v) b [] .results ≡ bit (lookedFound (lookedAt (find k (settings t v)))) ∷ lookedValue
+          (lookedAt (find k (settings t v))) ∷ []
+      found low v from g =
+          ap (λ (x : Ended). x .results)
+          (looked k v [] from g
+          ∙ ap (λ (q : Bool). ofLooked b [] (lookedBy (firstOf (rule 5 q ∷ rule 6 false ∷ [])) (find k (settings t v)))) low)
 
   equal-by : ((k : ℕ) (ns : List ℕ) → SaysSame (ended (toLookup k (next t)) b ns) (ended (toLookup k (t .current)) b ns)) → Equal t
   equal-by f =
       let rise = settings-rise (leastOf b) (omega (arith, four b)) t (a .agrees .is-sound) in
       let low = settings-low (leastOf b) (omega (arith, four b)) t (a .agrees .is-sound) in
-      finds-equal (λ (k : ℕ). within 0 keyLimit k) (settings t (next t)) (settings t (t .current)) (rise (next t) (omega (arith, last-is, kept-low))) (rise (t .current) (omega (arith, last-is, kept-low)))
+      finds-equal (λ (k : ℕ). within 0 keyLimit k) (settings t (next t)) (settings t (t .current))
+      (rise (next t) (omega (arith, last-is, kept-low))) (rise (t .current) (omega (arith, last-is, kept-low)))
       (low (next t) (omega (arith, last-is, kept-low))) (low (t .current) (omega (arith, last-is, kept-low))) (find-by f)
 
 -- ---- nothing differs
@@ -169,7 +185,14 @@ module _ (b : List ℕ) (o : OpenAccepted b) (ms : List ℕ) where
   kept-below = old-current (leastOf b) z (lent-agreed b (o .accepted) .agrees .is-sound .old-low)
 
   reads : BothReadable b (z .current) (next z)
-  reads = record { accepted = o .accepted; old-kept = kept-below; old = omega (arith, upto); new-kept = omega (arith, kept-below); new = omega (arith, upto) }
+  reads =
+      record {
+        accepted = o .accepted;
+        old-kept = kept-below;
+        old = omega (arith, upto);
+        new-kept = omega (arith, kept-below);
+        new = omega (arith, upto);
+      }
 
   abbrev ds : List Delta
   ds = differences z (z .current) (next z)
@@ -179,13 +202,16 @@ module _ (b : List ℕ) (o : OpenAccepted b) (ms : List ℕ) where
   count-is = at (ltb (length ms) (4 * length ds)) refl
     where
       at : (q : Bool) → ltb (length ms) (4 * length ds) ≡ q → ended (toDifference (z .current) (next z)) b ms .results ≡ length ds ∷ []
-      at true e = ap (λ (x : Ended). x .results) (difference-given b (z .current) (next z) reads .short ms (ltb-true (length ms) (4 * length ds) e))
-      at false e = ap (λ (x : Ended). x .results) (difference-given b (z .current) (next z) reads .room ms (ltb-false (length ms) (4 * length ds) e))
+      at true e =
+          ap (λ (x : Ended). x .results) (difference-given b (z .current) (next z) reads .short ms (ltb-true (length ms) (4 * length ds) e))
+      at false e =
+          ap (λ (x : Ended). x .results) (difference-given b (z .current) (next z) reads .room ms (ltb-false (length ms) (4 * length ds) e))
 
   none-is : unchanged z ≡ isEmpty ds
   none-is =
       let rise = settings-rise (leastOf b) (omega (arith, four b)) z (lent-agreed b (o .accepted) .agrees .is-sound) in
-      same-none (settings z (z .current)) (settings z (next z)) (rise (z .current) (omega (arith, upto, kept-below))) (rise (next z) (omega (arith, upto, kept-below)))
+      same-none (settings z (z .current)) (settings z (next z)) (rise (z .current) (omega (arith, upto, kept-below)))
+      (rise (next z) (omega (arith, upto, kept-below)))
 
   equal-none : Equal z → ended (toDifference (z .current) (next z)) b ms .results ≡ 0 ∷ []
   equal-none e = count-is ∙ ap (λ (n : ℕ). n ∷ []) (none-counted ds (sym none-is ∙ equal-settings z e))
@@ -204,10 +230,6 @@ absent-by true o q n g e = absurd (omega arith)
 absent-by false false q n g e = absurd (omega arith)
 absent-by false true true n g e = absurd (omega arith)
 absent-by false true false n g e = refl
-
-none-by : (x : Option ℕ) → isSome x ≡ false → x ≡ none
-none-by none e = refl
-none-by (some n) e = absurd (not-both true refl e)
 
 module _ (m : Machine) (k x : ℕ) (h : find k (m .shows (suc (m .current))) ≡ none) where
   abbrev w : ℕ
@@ -249,19 +271,24 @@ module _ (b : List ℕ) (k x : ℕ) (ns : List ℕ) (small : x < 4294967296) (do
   agreed₂ = one-turn x₁ agreed₁ (record { call = toDelete k; list = ns }) refl
 
   absent : find k (x₀ .machine .shows (suc (x₀ .machine .current))) ≡ none
-  absent = none-by (find k (x₀ .machine .shows (suc (x₀ .machine .current))))
-      (absent-by (leb benchLimit k) (x₀ .machine .opened) (aliveIn (x₀ .machine) k) (ended (toInsert k x) b ns .number) (answers x₀ agreed₀ .inserts k x ns) done₁)
+  absent = is-none (find k (x₀ .machine .shows (suc (x₀ .machine .current))))
+      (absent-by (leb benchLimit k) (x₀ .machine .opened) (aliveIn (x₀ .machine) k) (ended (toInsert k x) b ns .number)
+      (answers x₀ agreed₀ .inserts k x ns) done₁)
 
-  machine-is : x₂ .machine ≡ edited (λ (us : List Pair). those (λ (y : Pair). not (eqb (y .key) k)) us) (edited (enterPair (pair k x)) (x₀ .machine))
+  machine-is : x₂ .machine ≡ edited (λ (us : List Pair). those (λ (y : Pair). not (eqb (y .key) k)) us)
+      (edited (enterPair (pair k x)) (x₀ .machine))
   machine-is =
-      let one : x₁ .machine ≡ edited (enterPair (pair k x)) (x₀ .machine) = ap (λ (n : ℕ). whenDone n (edited (enterPair (pair k x)) (x₀ .machine)) (x₀ .machine)) done₁ in
-      ap (λ (n : ℕ). whenDone n (edited (λ (us : List Pair). those (λ (y : Pair). not (eqb (y .key) k)) us) (x₁ .machine)) (x₁ .machine)) done₂
+      let one : x₁ .machine ≡ edited (enterPair (pair k x)) (x₀ .machine)
+      = ap (λ (n : ℕ). whenDone n (edited (enterPair (pair k x)) (x₀ .machine)) (x₀ .machine)) done₁ in
+      ap (λ (n : ℕ). whenDone n (edited (λ (us : List Pair). those (λ (y : Pair). not (eqb (y .key) k)) us) (x₁ .machine)) (x₁ .machine))
+      done₂
       ∙ ap (edited (λ (us : List Pair). those (λ (y : Pair). not (eqb (y .key) k)) us)) one
 
   undone-so : ended toCommit (x₂ .bytes) ns .number ≡ ended toCommit b ns .number
   undone-so =
       answers x₂ agreed₂ .commits ns ∙ ap (λ (m : Machine). firstOf (commitTests (m .opened) (unchangedIn m))) machine-is
-      ∙ ap (λ (q : Bool). firstOf (commitTests (x₀ .machine .opened) q)) (undone-same (x₀ .machine) k x absent) ∙ sym (answers x₀ agreed₀ .commits ns)
+      ∙ ap (λ (q : Bool). firstOf (commitTests (x₀ .machine .opened) q)) (undone-same (x₀ .machine) k x absent)
+      ∙ sym (answers x₀ agreed₀ .commits ns)
 
 pub empty-releases : EmptyReleases
 empty-releases = record {

@@ -2,13 +2,12 @@
 -- Assumes nothing.
 use Prim.Native.Nat.{ℕ}
 use mathlib.Core.Bool.{Bool, true}
-use mathlib.Core.Path.{_≡_, refl, ap, ap₂, sym, _∙_, subst}
+use mathlib.Core.Path.{_≡_, refl, ap, sym, _∙_, subst}
 use mathlib.Core.Logic.{inl, inr}
 use mathlib.Core.List.{List, [], _∷_, _++_, map}
-use lib.Dec.{T, eqb, lit≤}
+use lib.Dec.{T, lit≤}
 use lib.ListN.{getD}
-use borrow.Author.Tests.{eqb-true}
-use Rattle.model.specs.Basic.{all, eqList}
+use Rattle.model.specs.Basic.{all}
 use Rattle.model.specs.declared.Looked.{Looked}
 use Rattle.model.specs.declared.Looked.the-variants.{Value, Absent}
 use Rattle.model.specs.Store.{Store, fresh}
@@ -25,10 +24,12 @@ use Rattle.model.specs.Table.{history, insertKey, twenty, twentyOne, deleteFrom
 use Rattle.model.specs.Proved.{P1-to-P12, table-sound}
 use Rattle.model.specs.Lent.{Outcome, leftBy}
 use Rattle.model.specs.Ended.{toLookup, Ended, ofOutcome, ofLooked, ended}
+use Rattle.model.specs.Inner.{In}
 use Rattle.model.proofs.lists.Lists.{both-true, all-cons}
-use Rattle.model.proofs.lists.Members.{holds-true, true-holds, In, all-in, in-getD}
+use Rattle.model.proofs.lists.Members.{holds-true, true-holds, all-in, in-getD}
 use Rattle.model.proofs.theorems.Theorems.{call-sound}
 use Rattle.model.proofs.theorems.Editions.{edition-four}
+use Rattle.store.proofs.laws.Tested.{list-true}
 use Rattle.promises.specs.Accepts.{Accepts, storeOf, OfEdition, Written}
 use Rattle.promises.specs.Runs.{run, asks}
 use Rattle.promises.specs.Replayed.{turnOf, madeOn, replayed, Replays, AllReplay, TableLent}
@@ -39,13 +40,16 @@ use Rattle.promises.proofs.Sounding.{lookup-lent}
 -- ---- calls on the bytes of a sound store
 
 module _ (least : ℕ) (e : OfEdition least) where
-  left-after : (s : Store) (r : Came) → leftBy least (encode least s) r ≡ record { number = after s r .number; store = encode least (after s r .store) }
+  left-after : (s : Store) (r : Came) → leftBy least (encode least s) r
+      ≡ record { number = after s r .number; store = encode least (after s r .store) }
   left-after s (gave (done t)) = refl
   left-after s (gave (refused n)) = refl
   left-after s (gaveUp n t) = refl
 
   -- one
-  one : (s : Store) → T (sound least s) → (c : Call) → ended (asks c) (encode least s) [] ≡ ofOutcome [] (record { number = after s (callBy least s c) .number; store = encode least (after s (callBy least s c) .store) })
+  one : (s : Store) → T (sound least s) → (c : Call)
+      → ended (asks c) (encode least s) [] ≡ ofOutcome []
+      (record { number = after s (callBy least s c) .number; store = encode least (after s (callBy least s c) .store) })
   one s sure c =
       let b : List ℕ = encode least s in
       let w : Written least s = encoded-sound least e s sure in
@@ -55,18 +59,24 @@ module _ (least : ℕ) (e : OfEdition least) where
   -- one after another
   pub runs : (cs : List Call) → all fits cs ≡ true → (n : ℕ) (s : Store) → T (sound least s)
       → run (record { number = n; store = encode least s }) (map turnOf cs)
-      ≡ record { number = Histories.run least (record { number = n; store = s }) cs .number; store = encode least (Histories.run least (record { number = n; store = s }) cs .store) }
+      ≡ record {
+        number = Histories.run least (record { number = n; store = s }) cs .number;
+        store = encode least (Histories.run least (record { number = n; store = s }) cs .store);
+      }
   runs [] h n s sure = refl
   runs (c ∷ cs) h n s sure =
       let (f, g) = all-cons fits c cs h in
       ap (λ (e : Ended). run (record { number = e .number; store = e .store }) (map turnOf cs)) (one s sure c)
-      ∙ runs cs g (after s (callBy least s c) .number) (after s (callBy least s c) .store) (call-sound least (edition-four least e) s sure c (true-holds (fits c) f))
+      ∙ runs cs g (after s (callBy least s c) .number) (after s (callBy least s c) .store)
+      (call-sound least (edition-four least e) s sure c (true-holds (fits c) f))
 
-  run-sound : (cs : List Call) → all fits cs ≡ true → (a : After) → T (sound least (a .store)) → T (sound least (Histories.run least a cs .store))
+  run-sound : (cs : List Call) → all fits cs ≡ true → (a : After) → T (sound least (a .store))
+      → T (sound least (Histories.run least a cs .store))
   run-sound [] h a sure = sure
   run-sound (c ∷ cs) h a sure =
       let (f, g) = all-cons fits c cs h in
-      run-sound cs g (after (a .store) (callBy least (a .store) c)) (call-sound least (edition-four least e) (a .store) sure c (true-holds (fits c) f))
+      run-sound cs g (after (a .store) (callBy least (a .store) c))
+      (call-sound least (edition-four least e) (a .store) sure c (true-holds (fits c) f))
 
 -- ---- the table
 
@@ -85,7 +95,8 @@ module _ (h : History) (well : soundWay h ≡ true) (fit : all fits (h .calls) �
   is = runs 4 (inl refl) (h .calls) fit 0 (h .store) start
 
   end-written : Written 4 (end .store)
-  end-written = encoded-sound 4 (inl refl) (end .store) (run-sound 4 (inl refl) (h .calls) fit (record { number = 0; store = h .store }) start)
+  end-written =
+      encoded-sound 4 (inl refl) (end .store) (run-sound 4 (inl refl) (h .calls) fit (record { number = 0; store = h .store }) start)
 
   pub end-bytes : replayed h .store ≡ encode 4 (end .store)
   end-bytes = ap (λ (o : Outcome). o .store) is
@@ -99,10 +110,12 @@ module _ (h : History) (well : soundWay h ≡ true) (fit : all fits (h .calls) �
   pub replay : holds h ≡ true → Replays h
   replay all-hold =
       let n : replayed h .number ≡ end .number = ap (λ (o : Outcome). o .number) is in
-      let same : _≡_ {A = After} (record { number = replayed h .number; store = storeOf (replayed h .store) }) end = λ i. record { number = n i; store = end-held i } in
+      let same : _≡_ {A = After} (record { number = replayed h .number; store = storeOf (replayed h .store) }) end
+      = λ i. record { number = n i; store = end-held i } in
       record { number = n; bytes = end-bytes; facts = true-holds _ (ap (allOf (h .facts)) same ∙ all-hold) }
 
-all-replay : (hs : List History) → all holds hs ≡ true → all soundWay hs ≡ true → all (λ (h : History). all fits (h .calls)) hs ≡ true → AllReplay hs
+all-replay : (hs : List History) → all holds hs ≡ true → all soundWay hs ≡ true → all (λ (h : History). all fits (h .calls)) hs ≡ true
+    → AllReplay hs
 all-replay [] a b c = tt
 all-replay (h ∷ hs) a b c =
     let (a₁, a₂) = all-cons holds h hs a in
@@ -120,12 +133,6 @@ fact f [] a i h = absurd i
 fact f (g ∷ gs) a (inl e) h = ap (λ (k : After → Bool). k a) e ∙ both-true (g a) (allOf gs a) h .0
 fact f (g ∷ gs) a (inr i) h = fact f gs a i (both-true (g a) (allOf gs a) h .1)
 
-pub list-true : (xs ys : List ℕ) → eqList xs ys ≡ true → xs ≡ ys
-list-true [] [] e = refl
-list-true [] (y ∷ ys) e = cc
-list-true (x ∷ xs) [] e = cc
-list-true (x ∷ xs) (y ∷ ys) e = let b = both-true (eqb x y) (eqList xs ys) e in ap₂ {C = List ℕ} (λ (z : ℕ) (zs : List ℕ). z ∷ zs) (eqb-true x y (b .0)) (list-true xs ys (b .1))
-
 module _ (h : History) (i : In h table) where
   pub in-holds : holds h ≡ true
   in-holds = all-in holds h table (holds-true (all holds table) P1-to-P12) i
@@ -137,7 +144,8 @@ module _ (h : History) (i : In h table) where
   in-fits = all-in (λ (x : History). all fits (x .calls)) h table (holds-true _ table-fits) i
 
   -- a fact that the table has of the store after it, of the bytes
-  pub fact-in : (f : After → Bool) → In f (h .facts) → f (record { number = replayed h .number; store = storeOf (replayed h .store) }) ≡ true
+  pub fact-in : (f : After → Bool) → In f (h .facts)
+      → f (record { number = replayed h .number; store = storeOf (replayed h .store) }) ≡ true
   fact-in f j = fact f (h .facts) _ j (holds-true _ (replay h in-sound in-fits in-holds .facts))
 
   -- where the table says that the bytes are those of s, they are
@@ -155,7 +163,9 @@ third : madeOn 8 twentyOne .store ≡ madeOn 8 twenty .store
 third =
     let early : all fits twenty ≡ true = refl in
     bytes-in (place 2) (in-getD none table 2 (lit≤ tt)) (from 4 8 twenty .store) (inr (inl refl))
-    ∙ sym (ap (λ (o : Outcome). o .store) (runs 4 (inl refl) twenty early 0 (fresh 8) (start (place 2) (in-sound (place 2) (in-getD none table 2 (lit≤ tt))) (in-fits (place 2) (in-getD none table 2 (lit≤ tt))))))
+    ∙ sym (ap (λ (o : Outcome). o .store)
+    (runs 4 (inl refl) twenty early 0 (fresh 8)
+    (start (place 2) (in-sound (place 2) (in-getD none table 2 (lit≤ tt))) (in-fits (place 2) (in-getD none table 2 (lit≤ tt))))))
 
 seventh : madeOn 16 (twentyOne ++ deleteFrom 12 7 ++ (abandons ∷ [])) .store ≡ encode 4 (fresh 16)
 seventh = bytes-in (place 6) (in-getD none table 6 (lit≤ tt)) (fresh 16) (inr (inl refl))
@@ -164,7 +174,9 @@ twelfth : madeOn 16 (reopened twenty ++ (deletes 1 ∷ insertKey 1 ∷ abandons 
 twelfth =
     let early : all fits (twenty ++ (commits ∷ [])) ≡ true = refl in
     bytes-in (place 11) (in-getD none table 11 (lit≤ tt)) (from 4 16 (twenty ++ (commits ∷ [])) .store) (inr (inl refl))
-    ∙ sym (ap (λ (o : Outcome). o .store) (runs 4 (inl refl) (twenty ++ (commits ∷ [])) early 0 (fresh 16) (start (place 11) (in-sound (place 11) (in-getD none table 11 (lit≤ tt))) (in-fits (place 11) (in-getD none table 11 (lit≤ tt))))))
+    ∙ sym (ap (λ (o : Outcome). o .store)
+    (runs 4 (inl refl) (twenty ++ (commits ∷ [])) early 0 (fresh 16)
+    (start (place 11) (in-sound (place 11) (in-getD none table 11 (lit≤ tt))) (in-fits (place 11) (in-getD none table 11 (lit≤ tt))))))
 
 -- a lookup that the table answers
 looked : (h : History) (i : In h table) (k v : ℕ) (x : Looked) → In (looks k v x) (h .facts) → (ns : List ℕ)
@@ -172,9 +184,11 @@ looked : (h : History) (i : In h table) (k v : ℕ) (x : Looked) → In (looks k
 looked h i k v x j ns =
     let b : List ℕ = replayed h .store in
     let s : Store = runOn 4 (h .store) (h .calls) .store in
-    let same : lookedNumbers (get s k v) ≡ lookedNumbers x = list-true _ _ (fact (looks k v x) (h .facts) (runOn 4 (h .store) (h .calls)) j (in-holds h i)) in
+    let same : lookedNumbers (get s k v) ≡ lookedNumbers x
+    = list-true _ _ (fact (looks k v x) (h .facts) (runOn 4 (h .store) (h .calls)) j (in-holds h i)) in
     let ok : Accepts (replayed h .store) = end-accepted h (in-sound h i) (in-fits h i) in
-    ap (ofLooked b ns) (lookup-lent b ok k v ∙ ap (λ (t : Store). get t k v) (end-held h (in-sound h i) (in-fits h i))) ∙ told b ns (get s k v) x same
+    ap (ofLooked b ns) (lookup-lent b ok k v ∙ ap (λ (t : Store). get t k v) (end-held h (in-sound h i) (in-fits h i)))
+    ∙ told b ns (get s k v) x same
   where
     told : (b ns : List ℕ) (x y : Looked) → lookedNumbers x ≡ lookedNumbers y → ofLooked b ns x ≡ ofLooked b ns y
     told b ns x y e =

@@ -18,7 +18,8 @@ use Rattle.model.proofs.lists.Lists.{both-true, both-intro, all-cons}
 use Rattle.model.proofs.lists.Members.{true-holds, not-both}
 use Rattle.model.proofs.theorems.Undone.{abandoned-update}
 use Rattle.promises.specs.Accepts.{Accepts, storeOf}
-use Rattle.promises.specs.Runs.{Turn, turned, runBytes, Kind, making, changing, reading, kindOf, notMaking, fitting, staying, inside, each}
+use Rattle.promises.specs.Runs.{Turn, turned, runBytes, Kind, making, changing, reading, kindOf, notMaking, fitting, staying, inside}
+use Rattle.promises.specs.Runs.{each}
 use Rattle.promises.specs.Demand3.{opening, abandoning, Restored, Abandoned}
 use Rattle.promises.specs.Beside.{Beside, whenDone, stepped, undone, onward, along, fromLent}
 use Rattle.promises.specs.Answers.{endTests}
@@ -34,7 +35,8 @@ use Rattle.promises.proofs.Answering.{answers}
 
 each-append : (f : Kind → Bool) (ts us : List Turn) → each f ts ≡ true → each f us ≡ true → each f (ts ++ us) ≡ true
 each-append f [] us h g = g
-each-append f (t ∷ ts) us h g = let (x, y) = all-cons (λ (u : Turn). f (kindOf (u .call))) t ts h in both-intro _ _ x (each-append f ts us y g)
+each-append f (t ∷ ts) us h g =
+    let (x, y) = all-cons (λ (u : Turn). f (kindOf (u .call))) t ts h in both-intro _ _ x (each-append f ts us y g)
 
 all-not : (ts : List Turn) (b : List ℕ) → inside b ts ≡ true → each notMaking ts ≡ true
 all-not [] b h = refl
@@ -63,7 +65,8 @@ undone-open making n m h o = o
 undone-open (changing c) n m h o = ap (λ (b : Bool). pick b (step m abandons) m .opened) (staying-up c n h) ∙ o
 undone-open reading n m h o = o
 
-when-open : (n : ℕ) (k : Kind) (m : Machine) → staying k n ≡ true → m .opened ≡ true → whenDone n (stepped k m) (undone k n m) .opened ≡ true
+when-open : (n : ℕ) (k : Kind) (m : Machine) → staying k n ≡ true → m .opened ≡ true
+    → whenDone n (stepped k m) (undone k n m) .opened ≡ true
 when-open zero k m h o = step-open k m h o
 when-open (suc n) k m h o = undone-open k (suc n) m h o
 
@@ -79,13 +82,16 @@ along-bytes (t ∷ ts) x = along-bytes ts (onward x t)
 
 -- ---- the update
 
-module _ (b : List ℕ) (bytes : Bytes b) (done : turned b opening .number ≡ 0) (ts : List Turn) (f : each fitting ts ≡ true) (i : inside b (opening ∷ ts) ≡ true) where
+module _ (b : List ℕ) (bytes : Bytes b) (done : turned b opening .number ≡ 0) (ts : List Turn) (f : each fitting ts ≡ true)
+    (i : inside b (opening ∷ ts) ≡ true) where
   ok : Accepts b
   ok = zero-accepts toOpen b [] refl done
 
   -- none of 8 and 9 is due
   free : (storeOf b .opened ≡ false) × (storeOf b .current < 1048574)
-  free = at (storeOf b .opened) refl (leb 1048574 (storeOf b .current)) refl (sym (begin-number (leastOf b) (storeOf b)) ∙ sym (change-number b ok begins []) ∙ done)
+  free =
+      at (storeOf b .opened) refl (leb 1048574 (storeOf b .current)) refl
+      (sym (begin-number (leastOf b) (storeOf b)) ∙ sym (change-number b ok begins []) ∙ done)
     where
       at : (o : Bool) → storeOf b .opened ≡ o → (q : Bool) → leb 1048574 (storeOf b .current) ≡ q → firstOf (rule 8 o ∷ rule 9 q ∷ []) ≡ 0
           → (storeOf b .opened ≡ false) × (storeOf b .current < 1048574)
@@ -104,7 +110,9 @@ module _ (b : List ℕ) (bytes : Bytes b) (done : turned b opening .number ≡ 0
   calls-are = ap (λ (cs : List Call). begins ∷ cs) (calls-append ts (abandoning ∷ []))
 
   left : Leaves (leastOf b) b (together (leastOf b) (lent (storeOf b)) (callsOf whole) .store) (runBytes b whole)
-  left = ran (leastOf b) whole (each-append notMaking ts (abandoning ∷ []) (all-not ts (turned b opening .store) behind) refl) (each-append fitting ts (abandoning ∷ []) f refl) b ok refl (lent (storeOf b)) refl
+  left =
+      ran (leastOf b) whole (each-append notMaking ts (abandoning ∷ []) (all-not ts (turned b opening .store) behind) refl)
+      (each-append fitting ts (abandoning ∷ []) f refl) b ok refl (lent (storeOf b)) refl
 
   held : storeOf (runBytes b whole) ≡ storeOf b
   held =

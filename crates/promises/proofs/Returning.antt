@@ -25,8 +25,9 @@ use Rattle.model.specs.Return.{carried, Came, gave, lacking, orAbandoned, unles
 use Rattle.model.specs.Histories.{abandons, returns, after}
 use Rattle.model.specs.Lent.{left, leftBy}
 use Rattle.model.specs.Ended.{toAbandon, toReturn, toDifference, Ended, ofOutcome, ended}
+use Rattle.model.specs.ByRule.{Sound, Committed}
 use Rattle.model.proofs.lists.Members.{holds-true}
-use Rattle.model.proofs.sound.ByRule.{Sound, from-tests, Committed}
+use Rattle.model.proofs.sound.ByRule.{from-tests, upto-last}
 use Rattle.model.proofs.reading.Lookups.{settings-rise}
 use Rattle.model.proofs.reading.Alike.{alike-settings}
 use Rattle.model.proofs.reading.Differs.{none-differs}
@@ -36,7 +37,8 @@ use Rattle.promises.specs.Accepts.{Accepts, storeOf}
 use Rattle.promises.specs.Runs.{Turn, turned, runBytes}
 use Rattle.promises.specs.Beside.{fromLent}
 use Rattle.promises.specs.Demand3.{opening, abandoning}
-use Rattle.promises.specs.Returns.{ReturnGives, Returned, ReturnDone, Stops, Stopped, ReturnStopped, returning, ReturnNothing, ReturnAbandons}
+use Rattle.promises.specs.Returns.{ReturnGives, Returned, ReturnDone, Stops, Stopped, ReturnStopped, returning, ReturnNothing}
+use Rattle.promises.specs.Returns.{ReturnAbandons}
 use Rattle.promises.proofs.Known.{four}
 use Rattle.promises.proofs.Encoded.{accepted}
 use Rattle.promises.proofs.High.{numberBy, return-free}
@@ -77,7 +79,8 @@ module _ (b : List ℕ) (ok : Accepts b) (v : ℕ) (ns : List ℕ) where
 
   whole : numberBy (returned (leastOf b) (storeOf b) v) ≡ 0 → DoneReturn (leastOf b) (storeOf b) v (returned (leastOf b) (storeOf b) v)
   whole =
-      returned-by (leastOf b) (λ (q : Came). numberBy q ≡ 0 → DoneReturn (leastOf b) (storeOf b) v q) (four b) (storeOf b) sure v (λ n e. absurd (n e))
+      returned-by (leastOf b) (λ (q : Came). numberBy q ≡ 0 → DoneReturn (leastOf b) (storeOf b) v q) (four b) (storeOf b) sure v
+      (λ n e. absurd (n e))
       (λ o h t g e. record { opened = o; committed = h; left-so = t; is = refl; stepped = g }) (λ o h n l e. absurd (never n 0 l e))
 
   early : (x y : Bool) → Stops (firstOf (rule 6 x ∷ rule 7 y ∷ [])) → ⊥
@@ -95,10 +98,12 @@ module _ (b : List ℕ) (ok : Accepts b) (v : ℕ) (ns : List ℕ) where
   undoes : Stops (numberBy (returned (leastOf b) (storeOf b) v)) → Undoes (leastOf b) (storeOf b) b (returned (leastOf b) (storeOf b) v)
   undoes =
       returned-by (leastOf b) (λ (q : Came). Stops (numberBy q) → Undoes (leastOf b) (storeOf b) b q) (four b) (storeOf b) sure v
-      (λ n e. absurd (early (beyond (storeOf b .current) (storeOf b .oldest) v) (not (storeOf b .opened)) e)) (λ o h t g e. absurd (zero e)) (λ o h n l e. record { opened = o; store = refl })
+      (λ n e. absurd (early (beyond (storeOf b .current) (storeOf b .oldest) v) (not (storeOf b .opened)) e)) (λ o h t g e. absurd (zero e))
+      (λ o h n l e. record { opened = o; store = refl })
 
   -- an abandon of an update that is open
-  abandon-is : storeOf b .opened ≡ true → ended toAbandon b ns ≡ ofOutcome ns (record { number = 0; store = encode (leastOf b) (abandoned (storeOf b)) })
+  abandon-is : storeOf b .opened ≡ true → ended toAbandon b ns
+      ≡ ofOutcome ns (record { number = 0; store = encode (leastOf b) (abandoned (storeOf b)) })
   unfolding Calls.abandon
   abandon-is o =
       change-is b ok abandons ns
@@ -108,7 +113,8 @@ module _ (b : List ℕ) (ok : Accepts b) (v : ℕ) (ns : List ℕ) where
   stopped-so e =
       let u = undoes (subst Stops (change-number b ok (returns v) ns) e) in
       record {
-        store = ap (λ (x : Ended). x .store) (change-is b ok (returns v) ns) ∙ u .store ∙ sym (ap (λ (x : Ended). x .store) (abandon-is (u .opened)));
+        store = ap (λ (x : Ended). x .store) (change-is b ok (returns v) ns) ∙ u .store
+            ∙ sym (ap (λ (x : Ended). x .store) (abandon-is (u .opened)));
         list = refl;
         abandons = ap (λ (x : Ended). x .number) (abandon-is (u .opened));
       }
@@ -141,19 +147,20 @@ module _ (b : List ℕ) (ok : Accepts b) (v : ℕ) (ns : List ℕ) where
     shown = ap (λ (t : Store). settings t (next t)) holds ∙ w .stepped .openly
 
     old-shown : settings (storeOf (ended (toReturn v) b ns .store)) v ≡ settings (storeOf b) v
-    old-shown = ap (λ (t : Store). settings t v) holds ∙ alike-settings (storeOf b) v (w .left-so) v (w .stepped .steady v (w .committed .from) (omega (arith, w .committed .upto)))
+    old-shown =
+        ap (λ (t : Store). settings t v) holds ∙ alike-settings (storeOf b) v (w .left-so) v
+        (w .stepped .steady v (w .committed .from) (omega (arith, w .committed .upto)))
 
     last-is : last (storeOf (ended (toReturn v) b ns .store)) ≡ suc (storeOf b .current)
     last-is = ap₂ lastOf still current-is
 
-    none : differ (settings (storeOf (ended (toReturn v) b ns .store)) v) (settings (storeOf (ended (toReturn v) b ns .store)) (next (storeOf (ended (toReturn v) b ns .store)))) ≡ []
+    none : differ (settings (storeOf (ended (toReturn v) b ns .store)) v)
+        (settings (storeOf (ended (toReturn v) b ns .store)) (next (storeOf (ended (toReturn v) b ns .store)))) ≡ []
     none =
         ap₂ differ old-shown shown
-        ∙ none-differs (settings (storeOf b) v) (settings-rise (leastOf b) (omega (arith, four b)) (storeOf b) sure v (omega (arith, w .committed .from, w .committed .upto, low (storeOf b .opened) (storeOf b .current))))
-      where
-        low : (o : Bool) (n : ℕ) → n ≤ lastOf o n
-        low true n = omega arith
-        low false n = omega arith
+        ∙ none-differs (settings (storeOf b) v)
+        (settings-rise (leastOf b) (omega (arith, four b)) (storeOf b) sure v
+        (omega (arith, w .committed .from, w .committed .upto, upto-last (storeOf b .opened) (storeOf b .current))))
 
     returned-so : Returned b v (ended (toReturn v) b ns .store)
     returned-so = record {
@@ -163,11 +170,20 @@ module _ (b : List ℕ) (ok : Accepts b) (v : ℕ) (ns : List ℕ) where
       shows = shown;
       older = λ u f h. views-stay b ok (record { call = toReturn v; list = ns } ∷ []) refl refl u (omega (arith, f, old-is)) h;
       nothing-differs = λ ms. nothing ms
-          (difference-given b′ v (next (storeOf b′)) (record { accepted = kept; old-kept = omega (arith, w .committed .from, old-is); old = omega (arith, w .committed .upto, last-is); new-kept = omega (arith, w .committed .from, w .committed .upto, old-is, current-is); new = omega (arith, last-is, current-is) }) .room ms);
+          (difference-given b′ v (next (storeOf b′))
+          (record {
+            accepted = kept;
+            old-kept = omega (arith, w .committed .from, old-is);
+            old = omega (arith, w .committed .upto, last-is);
+            new-kept = omega (arith, w .committed .from, w .committed .upto, old-is, current-is);
+            new = omega (arith, last-is, current-is);
+          }) .room ms);
     }
       where
         ds : List Delta
-        ds = differ (settings (storeOf (ended (toReturn v) b ns .store)) v) (settings (storeOf (ended (toReturn v) b ns .store)) (next (storeOf (ended (toReturn v) b ns .store))))
+        ds =
+            differ (settings (storeOf (ended (toReturn v) b ns .store)) v)
+            (settings (storeOf (ended (toReturn v) b ns .store)) (next (storeOf (ended (toReturn v) b ns .store))))
 
         nothing : (ms : List ℕ)
             → (4 * length ds ≤ length ms → ended (toDifference v (next (storeOf b′))) b′ ms
@@ -175,16 +191,20 @@ module _ (b : List ℕ) (ok : Accepts b) (v : ℕ) (ns : List ℕ) where
             → ended (toDifference v (next (storeOf b′))) b′ ms ≡ record { number = 0; results = 0 ∷ []; store = b′; list = ms }
         nothing ms f =
             f (omega (arith, ap (λ (xs : List Delta). length xs) none))
-            ∙ ap (λ (xs : List Delta). record { number = 0; results = length xs ∷ []; store = b′; list = flatMap deltaNumbers xs ++ drop (4 * length xs) ms }) none
+            ∙ ap (λ (xs : List Delta).
+            record { number = 0; results = length xs ∷ []; store = b′; list = flatMap deltaNumbers xs ++ drop (4 * length xs) ms }) none
 
   -- ---- nothing to do
 
-  module _ (o : storeOf b .opened ≡ true) (h : Committed (storeOf b) v) (same : settings (storeOf b) (next (storeOf b)) ≡ settings (storeOf b) v) where
+  module _ (o : storeOf b .opened ≡ true) (h : Committed (storeOf b) v)
+      (same : settings (storeOf b) (next (storeOf b)) ≡ settings (storeOf b) v) where
     returned-same : returned (leastOf b) (storeOf b) v ≡ gave (done (storeOf b))
     unfolding Return.returned Return.carried Return.through
     returned-same =
         ap₂ (λ (n : ℕ) (ds : List Delta). unless n (orAbandoned (carried (leastOf b) ds (storeOf b)))) (return-free (storeOf b) v o h)
-        (ap (λ (us : List Pair). differ us (settings (storeOf b) v)) same ∙ none-differs (settings (storeOf b) v) (settings-rise (leastOf b) (omega (arith, four b)) (storeOf b) sure v (omega (arith, open-last, h .from, h .upto))))
+        (ap (λ (us : List Pair). differ us (settings (storeOf b) v)) same
+        ∙ none-differs (settings (storeOf b) v)
+        (settings-rise (leastOf b) (omega (arith, four b)) (storeOf b) sure v (omega (arith, open-last, h .from, h .upto))))
       where
         open-last : last (storeOf b) ≡ next (storeOf b)
         open-last = ap (λ (p : Bool). lastOf p (storeOf b .current)) o

@@ -17,7 +17,8 @@ use Rattle.model.specs.Any
 use Rattle.model.specs.Calls.{firstOf}
 use Rattle.model.specs.Histories.{begins, commits, returns}
 use Rattle.model.specs.Settings.{start, step}
-use Rattle.model.specs.Ended.{toCheck, toOpen, toCommit, toInsert, toDelete, toLookup, toRange, toLife, toVisits, toReturn, Asked, Ended, ended}
+use Rattle.model.specs.Ended.{toCheck, toOpen, toCommit, toInsert, toDelete, toLookup, toRange, toLife, toVisits, toReturn, Asked, Ended}
+use Rattle.model.specs.Ended.{ended}
 use Rattle.model.specs.Samples.{twoLevels, fromElsewhere}
 use Rattle.model.specs.Proved.{two-levels-sound, from-elsewhere-sound}
 use Rattle.model.proofs.lists.Members.{true-holds}
@@ -44,7 +45,8 @@ turn c = record { call = c; list = [] }
 -- calls of every kind that may stand inside an update, a return that is done, and a commit and another open, which are refused
 abbrev pub calls : List Turn
 calls =
-    turn (toReturn 0) ∷ turn toCommit ∷ turn toCheck ∷ turn (toInsert 5 50) ∷ turn (toInsert 5 51) ∷ turn (toDelete 2) ∷ turn toOpen ∷ turn (toLookup 5 2)
+    turn (toReturn 0) ∷ turn toCommit ∷ turn toCheck ∷ turn (toInsert 5 50) ∷ turn (toInsert 5 51) ∷ turn (toDelete 2) ∷ turn toOpen ∷ turn
+    (toLookup 5 2)
     ∷ record { call = toRange 0 100 2; list = 0 ∷ 0 ∷ [] } ∷ record { call = toVisits 5 1; list = 0 ∷ 0 ∷ [] }
     ∷ turn (toLife 5) ∷ []
 
@@ -74,10 +76,13 @@ pub record Met : Type 0 where
 fresh-written : (least : ℕ) → OfEdition least → Written least (fresh 6)
 fresh-written least e =
     let low : 4 ≤ least = edition-four least e in
-    encoded-sound least e (fresh 6) (true-holds (sound least (fresh 6)) (to-tests least (fresh 6) (fresh-sound least (omega arith) 6 (lit≤ tt) (lit≤ tt))))
+    encoded-sound least e (fresh 6)
+    (true-holds (sound least (fresh 6)) (to-tests least (fresh 6) (fresh-sound least (omega arith) 6 (lit≤ tt) (lit≤ tt))))
 
 named : (least : ℕ) → OfEdition least → Names least (encode least (fresh 6))
-named least e = let w : Written least (fresh 6) = fresh-written least e in record { early = known (encode least (fresh 6)) (w .accepted); edition = w .edition }
+named least e =
+    let w : Written least (fresh 6) = fresh-written least e in
+    record { early = known (encode least (fresh 6)) (w .accepted); edition = w .edition }
 
 none : Accepts [] → ⊥
 unfolding Any.judgedAny Editions.byEdition
@@ -93,7 +98,8 @@ agreed = many-turns (opening ∷ []) refl (fromFresh 4 6) (fresh-agreed 4 (inl r
 empty : ended toCommit (turned (encode 4 (fresh 6)) opening .store) [] .number ≡ 15
 empty =
     answers (onward (fromFresh 4 6) opening) agreed .commits []
-    ∙ ap (λ (n : ℕ). firstOf (commitTests (whenDone n (step start begins) start .opened) (unchangedIn (whenDone n (step start begins) start)))) opened
+    ∙ ap (λ (n : ℕ). firstOf
+    (commitTests (whenDone n (step start begins) start .opened) (unchangedIn (whenDone n (step start begins) start)))) opened
 
 -- and a return to version 0 is done, with nothing to do
 abbrev begun : List ℕ
@@ -107,9 +113,12 @@ returned =
     let first : s .current ≡ 0 = agreed .agrees .current ∙ ap (λ (n : ℕ). whenDone n (step start begins) start .current) opened in
     let readable : last s ≡ 1 = ap₂ lastOf open-then first in
     let kept : s .oldest ≡ 0 = agreed .agrees .oldest ∙ ap (λ (n : ℕ). whenDone n (step start begins) start .oldest) opened in
-    let new : settings s (next s) ≡ [] = agreed .agrees .shows (next s) (omega (arith, kept)) ∙ ap₂ (λ (n c : ℕ). whenDone n (step start begins) start .shows (suc c)) opened first in
-    let old : settings s 0 ≡ [] = agreed .agrees .shows 0 (omega (arith, kept)) ∙ ap (λ (n : ℕ). whenDone n (step start begins) start .shows 0) opened in
-    when-nothing begun (call-bytes (encode 4 (fresh 6)) (w .accepted) (w .bytes) toOpen refl []) (agreed .accepted) open-then 0 (omega (arith, kept)) (omega arith) (new ∙ sym old) []
+    let new : settings s (next s) ≡ [] = agreed .agrees .shows (next s) (omega (arith, kept))
+    ∙ ap₂ (λ (n c : ℕ). whenDone n (step start begins) start .shows (suc c)) opened first in
+    let old : settings s 0 ≡ [] = agreed .agrees .shows 0 (omega (arith, kept))
+    ∙ ap (λ (n : ℕ). whenDone n (step start begins) start .shows 0) opened in
+    when-nothing begun (call-bytes (encode 4 (fresh 6)) (w .accepted) (w .bytes) toOpen refl []) (agreed .accepted) open-then 0
+    (omega (arith, kept)) (omega arith) (new ∙ sym old) []
 
 pub met : Met
 met =
@@ -124,10 +133,12 @@ met =
       no-store = none;
       fit = refl;
       stay =
-          ap₂ (λ (m n : ℕ). staying (changing (returns 0)) m && (staying (changing commits) n && true)) (ap (λ (e : Ended). e .number) returned)
+          ap₂ (λ (m n : ℕ). staying (changing (returns 0)) m && (staying (changing commits) n && true))
+          (ap (λ (e : Ended). e .number) returned)
           (ap (λ (e : Ended). ended toCommit (e .store) [] .number) returned ∙ empty);
       not-fresh = refl;
       opens = (fresh-written 4 (inl refl) .bytes, opened);
-      opens-second = (fresh-written 8 (inr refl) .bytes, answers (fromFresh 8 6) (fresh-agreed 8 (inr refl) 6 (lit≤ tt) (lit≤ tt)) .opens []);
+      opens-second =
+          (fresh-written 8 (inr refl) .bytes, answers (fromFresh 8 6) (fresh-agreed 8 (inr refl) 6 (lit≤ tt) (lit≤ tt)) .opens []);
       honest = λ c b ns. refl;
     }

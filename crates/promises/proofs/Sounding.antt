@@ -38,7 +38,8 @@ module _ (b : List ℕ) (ok : Accepts b) where
 
   pub lookup-lent : (k v : ℕ) → lookupAny b k v ≡ get (storeOf b) k v
   unfolding Any.lookupAny
-  lookup-lent k v = goes {A = Looked} b (λ (n : ℕ). Refused n) (λ (l : ℕ). lookupLent l b k v) (known b ok) ∙ lookup-same edition b accepted-sound k v
+  lookup-lent k v =
+      goes {A = Looked} b (λ (n : ℕ). Refused n) (λ (l : ℕ). lookupLent l b k v) (known b ok) ∙ lookup-same edition b accepted-sound k v
 
   -- the call by the limits of the edition
   told-by : (ns : List ℕ) (call : ℕ → Listed) → Any.listedAny b ns call ≡ call (leastOf b)
@@ -49,7 +50,8 @@ module _ (b : List ℕ) (ok : Accepts b) where
   range-lent lo hi v ns = told-by ns (λ (l : ℕ). rangeLent l b lo hi v ns) ∙ range-same edition b accepted-sound lo hi v ns
 
   -- a call that judges the whole store first
-  judged-first : (ns : List ℕ) (r : Listed) → judgedFirst (judged (leastOf b) b .number) (λ n. record { number = n; count = 0; list = ns }) r ≡ r
+  judged-first : (ns : List ℕ) (r : Listed) → judgedFirst (judged (leastOf b) b .number)
+      (λ n. record { number = n; count = 0; list = ns }) r ≡ r
   judged-first ns r = ap (λ (m : ℕ). judgedFirst m (λ n. record { number = n; count = 0; list = ns }) r) (judged-by b ok)
 
   pub visits-lent : (k v : ℕ) (ns : List ℕ) → visitsAny b k v ns ≡ listed ns (visits (storeOf b) k v (length ns))
@@ -58,7 +60,8 @@ module _ (b : List ℕ) (ok : Accepts b) where
 
   pub difference-lent : (u v : ℕ) (ns : List ℕ) → differenceAny b u v ns ≡ listed ns (difference (storeOf b) u v (length ns))
   unfolding Any.differenceAny Lent.differenceLent
-  difference-lent u v ns = told-by ns (λ (l : ℕ). differenceLent l b u v ns) ∙ judged-first ns (listed ns (difference (storeOf b) u v (length ns)))
+  difference-lent u v ns =
+      told-by ns (λ (l : ℕ). differenceLent l b u v ns) ∙ judged-first ns (listed ns (difference (storeOf b) u v (length ns)))
 
   pub life-lent : (k : ℕ) (ns : List ℕ) → lifeAny b k ns ≡ listed ns (lived (storeOf b) k (length ns))
   unfolding Any.lifeAny Lent.lifeLent

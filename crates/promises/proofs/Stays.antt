@@ -2,7 +2,7 @@
 -- Assumes nothing.
 use Prim.Native.Nat.{ℕ, _*_, _≤_, _<_}
 use native.Mathlib.Omega.{arith}
-use mathlib.Core.Bool.{Bool, true, false, _||_}
+use mathlib.Core.Bool.{Bool, true, _||_}
 use mathlib.Core.Path.{_≡_, refl, ap, ap₂, sym, _∙_, subst}
 use mathlib.Core.Option.{Option}
 use mathlib.Core.List.{List, [], _∷_, _++_}
@@ -11,7 +11,7 @@ use lib.ListN.{length, drop}
 use borrow.Author.Tests.{le-ltb, lt-leb}
 use Rattle.model.specs.declared.Pair.{Pair}
 use Rattle.model.specs.declared.Looked.{Looked}
-use Rattle.model.specs.Store.{Store, last, lastOf}
+use Rattle.model.specs.Store.{Store, last}
 use Rattle.model.specs.Walk.{keyLimit, lookup, lookupVisits}
 use Rattle.model.specs.Editions.{leastOf}
 use Rattle.model.specs.Calls
@@ -24,7 +24,8 @@ use Rattle.model.specs.Settings.{lent, together}
 use Rattle.model.specs.Lent.{Listed, listed}
 use Rattle.model.specs.Any.{lookupAny, rangeAny, visitsAny}
 use Rattle.model.specs.Ended.{ofLooked, ofListed}
-use Rattle.model.proofs.sound.ByRule.{Readable, of-readable}
+use Rattle.model.specs.ByRule.{Readable}
+use Rattle.model.proofs.sound.ByRule.{of-readable, upto-last}
 use Rattle.model.proofs.reading.Alike.{Alike, alike-lookup, alike-visits, alike-range, alike-range-visits}
 use Rattle.model.proofs.reading.Visits.{pages-told}
 use Rattle.model.proofs.theorems.Undone.{lent-agrees}
@@ -44,31 +45,39 @@ module _ (s : Store) (k v : ℕ) (low : k < keyLimit) (h : Readable s v) (ns : L
   abbrev pages : List ℕ
   pages = lookupVisits s k v
 
-  all-told : length pages ≤ length ns → listed ns (visits s k v (length ns)) ≡ record { number = 0; count = length pages; list = pages ++ drop (length pages) ns }
+  all-told : length pages ≤ length ns → listed ns (visits s k v (length ns))
+      ≡ record { number = 0; count = length pages; list = pages ++ drop (length pages) ns }
   unfolding Visited.visits Told.toldBy Told.toldIn
   all-told room =
-      ap₂ (λ (p q : Bool). listed ns (toldBy pageNumber 1 (firstOf (rule 5 p ∷ rule 6 q ∷ [])) (length ns) pages)) (lt-leb keyLimit k low) (of-readable s v h)
-      ∙ ap (λ (t : Bool). listed ns (toldIn pageNumber (firstOf (rule 14 t ∷ [])) pages)) (le-ltb (length ns) (1 * length pages) (omega arith))
+      ap₂ (λ (p q : Bool). listed ns (toldBy pageNumber 1 (firstOf (rule 5 p ∷ rule 6 q ∷ [])) (length ns) pages)) (lt-leb keyLimit k low)
+      (of-readable s v h)
+      ∙ ap (λ (t : Bool). listed ns (toldIn pageNumber (firstOf (rule 14 t ∷ [])) pages))
+      (le-ltb (length ns) (1 * length pages) (omega arith))
       ∙ ap (λ (us : List ℕ). record { number = 0; count = length pages; list = us ++ drop (length us) ns }) (pages-told pages)
 
 -- ---- a version that is readable in both
 
 module _ (s t : Store) (v : ℕ) (old : Readable s v) (new : Readable t v) (a : Alike s v t v) where
   still : unreadable t v ≡ unreadable s v
-  still = rw (le-ltb (last t) v (new .upto), le-ltb (last s) v (old .upto), le-ltb v (t .oldest) (new .from), le-ltb v (s .oldest) (old .from))
+  still =
+      rw (le-ltb (last t) v (new .upto), le-ltb (last s) v (old .upto), le-ltb v (t .oldest) (new .from), le-ltb v (s .oldest) (old .from))
 
   get-same : (k : ℕ) → get t k v ≡ get s k v
   unfolding Calls.get
-  get-same k = ap₂ (λ (q : Bool) (o : Option ℕ). lookedBy (firstOf (rule 5 (leb keyLimit k) ∷ rule 6 q ∷ [])) o) still (alike-lookup s v t v a k)
+  get-same k =
+      ap₂ (λ (q : Bool) (o : Option ℕ). lookedBy (firstOf (rule 5 (leb keyLimit k) ∷ rule 6 q ∷ [])) o) still (alike-lookup s v t v a k)
 
   range-same : (lo hi room : ℕ) → range t lo hi v room ≡ range s lo hi v room
   unfolding Calls.range
   range-same lo hi room =
-      ap₂ (λ (q : Bool) (xs : List Pair). rangedBy (firstOf (rule 5 (leb keyLimit lo || leb keyLimit hi || ltb hi lo) ∷ rule 6 q ∷ [])) room xs) still (alike-range s v t v a lo hi)
+      ap₂ (λ (q : Bool) (xs : List Pair). rangedBy
+      (firstOf (rule 5 (leb keyLimit lo || leb keyLimit hi || ltb hi lo) ∷ rule 6 q ∷ [])) room xs) still (alike-range s v t v a lo hi)
 
   visits-same : (k room : ℕ) → visits t k v room ≡ visits s k v room
   unfolding Visited.visits
-  visits-same k room = ap₂ (λ (q : Bool) (ns : List ℕ). toldBy pageNumber 1 (firstOf (rule 5 (leb keyLimit k) ∷ rule 6 q ∷ [])) room ns) still (alike-visits s v t v a k)
+  visits-same k room =
+      ap₂ (λ (q : Bool) (ns : List ℕ). toldBy pageNumber 1 (firstOf (rule 5 (leb keyLimit k) ∷ rule 6 q ∷ [])) room ns) still
+      (alike-visits s v t v a k)
 
 -- ---- the calls
 
@@ -85,21 +94,18 @@ module _ (b : List ℕ) (ok : Accepts b) (ts : List Turn) (f : each fitting ts �
   pub goes : WaysStay (storeOf b) (storeOf (runBytes b ts))
   goes =
       subst (WaysStay (storeOf b)) (sym (later .holds))
-      (goes-on (leastOf b) (four b) (callsOf ts) (calls-fit ts f) (lent (storeOf b)) (lent-agrees (leastOf b) (storeOf b) (held-sound b ok)))
-
-  low : (q : Bool) (n : ℕ) → n ≤ lastOf q n
-  low true n = omega arith
-  low false n = omega arith
+      (goes-on (leastOf b) (four b) (callsOf ts) (calls-fit ts f) (lent (storeOf b))
+      (lent-agrees (leastOf b) (storeOf b) (held-sound b ok)))
 
   module _ (v : ℕ) (f′ : storeOf (runBytes b ts) .oldest ≤ v) (h : v ≤ storeOf b .current) where
     pub view : Alike (storeOf b) v (storeOf (runBytes b ts)) v
     view = goes .steady v f′ h
 
     pub old : Readable (storeOf b) v
-    old = omega (arith, goes .oldest, low (storeOf b .opened) (storeOf b .current))
+    old = omega (arith, goes .oldest, upto-last (storeOf b .opened) (storeOf b .current))
 
     pub new : Readable (storeOf (runBytes b ts)) v
-    new = omega (arith, goes .current, low (storeOf (runBytes b ts) .opened) (storeOf (runBytes b ts) .current))
+    new = omega (arith, goes .current, upto-last (storeOf (runBytes b ts) .opened) (storeOf (runBytes b ts) .current))
 
     same-view : SameView (storeOf b) (storeOf (runBytes b ts)) v
     same-view = record {
@@ -114,11 +120,13 @@ module _ (b : List ℕ) (ok : Accepts b) (ts : List Turn) (f : each fitting ts �
 
     ranges-same : (lo hi : ℕ) (ns : List ℕ) → rangeAny (runBytes b ts) lo hi v ns ≡ rangeAny b lo hi v ns
     ranges-same lo hi ns =
-        range-lent b′ (later .accepts) lo hi v ns ∙ ap (listed ns) (range-same s (storeOf b′) v old new view lo hi (length ns)) ∙ sym (range-lent b ok lo hi v ns)
+        range-lent b′ (later .accepts) lo hi v ns ∙ ap (listed ns) (range-same s (storeOf b′) v old new view lo hi (length ns))
+        ∙ sym (range-lent b ok lo hi v ns)
 
     told-same : (k : ℕ) (ns : List ℕ) → visitsAny (runBytes b ts) k v ns ≡ visitsAny b k v ns
     told-same k ns =
-        visits-lent b′ (later .accepts) k v ns ∙ ap (listed ns) (visits-same s (storeOf b′) v old new view k (length ns)) ∙ sym (visits-lent b ok k v ns)
+        visits-lent b′ (later .accepts) k v ns ∙ ap (listed ns) (visits-same s (storeOf b′) v old new view k (length ns))
+        ∙ sym (visits-lent b ok k v ns)
 
     same-answers : SameAnswers b (runBytes b ts) v
     same-answers = record {
@@ -149,7 +157,8 @@ pub pages-stay : PagesStay
 pages-stay b ok ts f m v from h = views-stay b ok ts f m v from h .lookup-visits
 
 pub visits-told : VisitsTold
-visits-told b ok k v low from h ns room = ap (ofListed b) (visits-lent b ok k v ns ∙ all-told (storeOf b) k v low (record { from = from; upto = h }) ns room)
+visits-told b ok k v low from h ns room =
+    ap (ofListed b) (visits-lent b ok k v ns ∙ all-told (storeOf b) k v low (record { from = from; upto = h }) ns room)
 
 pub visits-stay : VisitsStay
 visits-stay b ok ts f m v from h k ns =

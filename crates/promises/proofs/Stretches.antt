@@ -15,7 +15,8 @@ use Rattle.model.specs.declared.Stretch.{Stretch}
 use Rattle.model.specs.Entry.{alive}
 use Rattle.model.specs.Life.{touch, join, shownTo, lifeOf}
 use Rattle.model.proofs.lists.Lists.{both-true}
-use Rattle.model.proofs.reading.Lives.{stretch, First, join-touch, runs, front, runs-step, runs-late}
+use Rattle.model.specs.Still.{stretch}
+use Rattle.model.proofs.reading.Lives.{First, join-touch, runs, front, runs-step, runs-late}
 use Rattle.promises.specs.Lives.{Lies, Apart, EndsBy}
 
 -- ---- joined
@@ -40,7 +41,8 @@ apart-from : (s x : ℕ) (b : Stretch) (ys : List Stretch) → s < b .end → x 
 apart-from s x b [] p q h = p
 apart-from s x b (y ∷ ys) p q h = (p, h .1, (λ e i. h .2 e (sym q ∙ i)), h .3)
 
-apart-join : (a : Stretch) (ys : List Stretch) → a .start < a .end → First (λ (b : Stretch). a .end ≤ b .start) ys → Apart ys → Apart (join a ys)
+apart-join : (a : Stretch) (ys : List Stretch) → a .start < a .end → First (λ (b : Stretch). a .end ≤ b .start) ys → Apart ys
+    → Apart (join a ys)
 apart-join a [] p q h = p
 apart-join a (b ∷ ys) p q h = at (touch a b) refl
   where
@@ -66,7 +68,8 @@ module _ (v x : ℕ) (a : Stretch) where
       at true t (inr r) = inr (inr r)
       at false t r = r
 
-  joined-lies : (ys : List Stretch) → a .start < a .end → First (λ (b : Stretch). b .start < b .end) ys → Lies v x (a ∷ ys) → Lies v x (join a ys)
+  joined-lies : (ys : List Stretch) → a .start < a .end → First (λ (b : Stretch). b .start < b .end) ys → Lies v x (a ∷ ys)
+      → Lies v x (join a ys)
   joined-lies [] p q h = h
   joined-lies (b ∷ ys) p q h = at (touch a b) refl h
     where
@@ -96,17 +99,21 @@ module _ (f : ℕ → Option ℕ) where
 
   found-lies : (n v w x : ℕ) → v ≤ w → w < v + n → f w ≡ some x → Lies w x (runs f v n)
   found-lies zero v w x low high e = absurd (omega arith)
-  found-lies (suc n) v w x low high e = rw (runs-step f v n) (at (f v) refl (eqb w v) refl (λ h. found-lies n (suc v) w x h (omega arith) e))
+  found-lies (suc n) v w x low high e =
+      rw (runs-step f v n) (at (f v) refl (eqb w v) refl (λ h. found-lies n (suc v) w x h (omega arith) e))
     where
-      at : (o : Option ℕ) → f v ≡ o → (t : Bool) → eqb w v ≡ t → (suc v ≤ w → Lies w x (runs f (suc v) n)) → Lies w x (front v o (runs f (suc v) n))
+      at : (o : Option ℕ) → f v ≡ o → (t : Bool) → eqb w v ≡ t → (suc v ≤ w → Lies w x (runs f (suc v) n))
+          → Lies w x (front v o (runs f (suc v) n))
       at none q true t h = let i : w ≡ v = eqb-true w v t in absurd (let z : _≡_ {A = ℕ} 0 1 = cc in omega arith)
       at none q false t h = h (later low (eqb-false w v t))
       at (some y) q true t h =
           let i : w ≡ v = eqb-true w v t in
           let g : y ≡ x = cc in
-          joined-lies w x (stretch v (suc v) y) (runs f (suc v) n) (omega arith) (apart-first (runs f (suc v) n) (runs-apart n (suc v))) (inl (omega arith, omega arith, g))
+          joined-lies w x (stretch v (suc v) y) (runs f (suc v) n) (omega arith) (apart-first (runs f (suc v) n) (runs-apart n (suc v)))
+          (inl (omega arith, omega arith, g))
       at (some y) q false t h =
-          joined-lies w x (stretch v (suc v) y) (runs f (suc v) n) (omega arith) (apart-first (runs f (suc v) n) (runs-apart n (suc v))) (inr (h (later low (eqb-false w v t))))
+          joined-lies w x (stretch v (suc v) y) (runs f (suc v) n) (omega arith) (apart-first (runs f (suc v) n) (runs-apart n (suc v)))
+          (inr (h (later low (eqb-false w v t))))
 
   -- and nothing else lies there
   pub record FoundAt (v n w x : ℕ) : Type 0 where
@@ -121,7 +128,8 @@ module _ (f : ℕ → Option ℕ) where
       more : FoundAt (suc v) n w x → FoundAt v (suc n) w x
       more g = record { from = omega (arith, g .from); upto = omega (arith, g .upto); is = g .is }
 
-      at : (o : Option ℕ) → f v ≡ o → Lies w x (front v o (runs f (suc v) n)) → (Lies w x (runs f (suc v) n) → FoundAt (suc v) n w x) → FoundAt v (suc n) w x
+      at : (o : Option ℕ) → f v ≡ o → Lies w x (front v o (runs f (suc v) n)) → (Lies w x (runs f (suc v) n) → FoundAt (suc v) n w x)
+          → FoundAt v (suc n) w x
       at none q r ih = more (ih r)
       at (some y) q r ih = by (lies-joined w x (stretch v (suc v) y) (runs f (suc v) n) r)
         where
@@ -181,7 +189,8 @@ module _ (c : ℕ) where
     apart-shown [] u h = _
     apart-shown (a ∷ []) u h = shown-some a h (u .0)
     apart-shown (a ∷ b ∷ xs) u h =
-        let e : shownTo c a .end ≡ a .end = ap (λ (z : Stretch). z .end) (shown-before a (omega (arith, h .1, u .1 .0, apart-first (b ∷ xs) (h .3)))) in
+        let e : shownTo c a .end ≡ a .end = ap (λ (z : Stretch). z .end)
+        (shown-before a (omega (arith, h .1, u .1 .0, apart-first (b ∷ xs) (h .3)))) in
         (shown-some a (h .0) (u .0), rw e (h .1), (λ p q. h .2 (sym e ∙ p) q), apart-shown (b ∷ xs) (u .1) (h .3))
 
     module _ (v x : ℕ) (h : v ≤ c) where
@@ -214,7 +223,8 @@ module _ (old c : ℕ) (f : ℕ → Option ℕ) where
 
   pub life-apart : old ≤ c → c < alive → Apart (lifeOf old c f)
   unfolding lifeOf
-  life-apart kept low = apart-shown c low (runs f old (suc c - old)) (runs-upto f (suc c - old) old (suc c) (omega arith)) (runs-apart f (suc c - old) old)
+  life-apart kept low =
+      apart-shown c low (runs f old (suc c - old)) (runs-upto f (suc c - old) old (suc c) (omega arith)) (runs-apart f (suc c - old) old)
 
   pub life-lies : c < alive → (v x : ℕ) → old ≤ v → v ≤ c → f v ≡ some x ↔ Lies v x (lifeOf old c f)
   unfolding lifeOf
@@ -239,7 +249,10 @@ shown-front c v (some x) ys h = shown-join c (stretch v (suc v) x) ys h
 
 module _ (c : ℕ) (f : ℕ → Option ℕ) (same : f (suc c) ≡ f c) where
   last-two : map (shownTo (suc c)) (runs f c 2) ≡ map (shownTo c) (runs f c 1)
-  last-two = ap (map (shownTo (suc c))) (runs-step f c 1 ∙ ap (front c (f c)) (runs-step f (suc c) 0 ∙ ap (λ (o : Option ℕ). front (suc c) o []) same)) ∙ at (f c) ∙ sym (ap (map (shownTo c)) (runs-step f c 0))
+  last-two =
+      ap (map (shownTo (suc c)))
+      (runs-step f c 1 ∙ ap (front c (f c)) (runs-step f (suc c) 0 ∙ ap (λ (o : Option ℕ). front (suc c) o []) same)) ∙ at (f c)
+      ∙ sym (ap (map (shownTo c)) (runs-step f c 0))
     where
       at : (o : Option ℕ) → map (shownTo (suc c)) (front c o (front (suc c) o [])) ≡ map (shownTo c) (front c o [])
       at none = refl
@@ -260,4 +273,5 @@ module _ (c : ℕ) (f : ℕ → Option ℕ) (same : f (suc c) ≡ f c) where
   life-stays old h =
       let p : suc (suc c) - old ≡ suc (suc (c - old)) = omega arith in
       let q : suc (c - old) ≡ suc c - old = omega arith in
-      ap (λ (n : ℕ). map (shownTo (suc c)) (runs f old n)) p ∙ one-more (c - old) old (omega arith) ∙ ap (λ (n : ℕ). map (shownTo c) (runs f old n)) q
+      ap (λ (n : ℕ). map (shownTo (suc c)) (runs f old n)) p ∙ one-more (c - old) old (omega arith)
+      ∙ ap (λ (n : ℕ). map (shownTo c) (runs f old n)) q

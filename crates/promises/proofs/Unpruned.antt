@@ -20,7 +20,8 @@ use Rattle.model.specs.Clean.{clean}
 use Rattle.model.specs.Judged.{lengthOk, magicOk, editionOk, brokenIn, ruled, verdict, judged}
 use Rattle.model.specs.Editions.{leastOf, lentNumber}
 use Rattle.model.specs.Any.{judgedAny}
-use Rattle.model.proofs.lists.Members.{In, all-in, not-both}
+use Rattle.model.specs.Inner.{In}
+use Rattle.model.proofs.lists.Members.{all-in, not-both}
 use Rattle.model.proofs.sound.ByRule.{Front, front-of, entry-ok, GoodEntry, Young, rule7-by}
 use Rattle.model.proofs.sound.Judging.{clean-first}
 use Rattle.store.proofs.laws.Read.{oldest-lt}
@@ -31,11 +32,15 @@ use Rattle.promises.proofs.Known.{check-goes, check-refuses}
 -- ---- rule 7, from rules 1 to 3
 
 module _ (least : ℕ) (s : Store) (d : Front least s) (z : s .oldest ≡ 0) where
-  young : s .opened ≡ true → (n : ℕ) → isFree (page (s .pages) n) ≡ false → page (s .pages) n .start ≡ next s → (e : Entry) → In e (page (s .pages) n .entries) → Young (next s) e
+  young : s .opened ≡ true → (n : ℕ) → isFree (page (s .pages) n) ≡ false → page (s .pages) n .start ≡ next s → (e : Entry)
+      → In e (page (s .pages) n .entries) → Young (next s) e
   young o n u q e i = at (g .span .ends)
     where
       g : GoodEntry s (page (s .pages) n) e
-      g = entry-ok s (page (s .pages) n) e (all-in (entryOk (last s) (length (s .pages)) (page (s .pages) n .level)) e (page (s .pages) n .entries) (d .pages n u .entries) i)
+      g =
+          entry-ok s (page (s .pages) n) e
+          (all-in (entryOk (last s) (length (s .pages)) (page (s .pages) n .level)) e (page (s .pages) n .entries)
+          (d .pages n u .entries) i)
           (all-in (liesWell s (page (s .pages) n)) e (page (s .pages) n .entries) (d .spans n u) i)
 
       open-last : last s ≡ next s
@@ -61,12 +66,14 @@ record Seven (least : ℕ) (b : List ℕ) : Type 0 where
 
 seven-says : (least : ℕ) (b : List ℕ) → brokenIn least b ≡ 7 → Seven least b
 unfolding brokenIn
-seven-says least b h = at (clean least b) (rule2 s) (rule3 s) (rule4 s) (rule5 least s) (rule6 s) (rule7 s) (rule8 least b) refl refl refl refl h
+seven-says least b h =
+    at (clean least b) (rule2 s) (rule3 s) (rule4 s) (rule5 least s) (rule6 s) (rule7 s) (rule8 least b) refl refl refl refl h
   where
     s : Store
     s = decode least b
 
-    at : (p q r t u v w x : Bool) → clean least b ≡ p → rule2 (decode least b) ≡ q → rule3 (decode least b) ≡ r → rule7 (decode least b) ≡ w → firstBroken 1 (p ∷ q ∷ r ∷ t ∷ u ∷ v ∷ w ∷ x ∷ []) ≡ 7 → Seven least b
+    at : (p q r t u v w x : Bool) → clean least b ≡ p → rule2 (decode least b) ≡ q → rule3 (decode least b) ≡ r → rule7 (decode least b) ≡ w
+        → firstBroken 1 (p ∷ q ∷ r ∷ t ∷ u ∷ v ∷ w ∷ x ∷ []) ≡ 7 → Seven least b
     at false q r t u v w x a c e f h = absurd (omega arith)
     at true false r t u v w x a c e f h = absurd (omega arith)
     at true true false t u v w x a c e f h = absurd (omega arith)
@@ -85,7 +92,8 @@ judged-seven : (least : ℕ) (b : List ℕ) → judged least b .rule ≡ 7 → b
 unfolding judged
 judged-seven least b = at (lengthOk least b) (magicOk b) (editionOk least b)
   where
-    at : (p q r : Bool) → pick p (pick q (pick r (ruled (brokenIn least b)) (verdict 3 0)) (verdict 2 0)) (verdict 1 0) .rule ≡ 7 → brokenIn least b ≡ 7
+    at : (p q r : Bool) → pick p (pick q (pick r (ruled (brokenIn least b)) (verdict 3 0)) (verdict 2 0)) (verdict 1 0) .rule ≡ 7
+        → brokenIn least b ≡ 7
     at true true true e = ruled-is (brokenIn least b) e
     at true true false e = absurd (omega arith)
     at true false r e = absurd (omega arith)
@@ -97,7 +105,9 @@ unpruned b z e = at (lentNumber b) refl
     at : (n : ℕ) → lentNumber b ≡ n → ⊥
     at zero q =
         let w = seven-says (leastOf b) b (judged-seven (leastOf b) b (sym (ap (λ (v : Verdict). v .rule) (check-goes b q)) ∙ e)) in
-        not-both (rule7 (storeOf b)) (seventh (leastOf b) (storeOf b) (front-of (leastOf b) (storeOf b) (clean-first (leastOf b) b (w .one)) (w .two) (w .three)) z) (w .seven)
+        not-both (rule7 (storeOf b))
+        (seventh (leastOf b) (storeOf b) (front-of (leastOf b) (storeOf b) (clean-first (leastOf b) b (w .one)) (w .two) (w .three)) z)
+        (w .seven)
     at (suc n) q = omega (arith, sym (ap (λ (v : Verdict). v .rule) (check-refuses b (λ (y : lentNumber b ≡ 0). omega (arith, q, y)))) ∙ e)
 
 -- a field of no bits

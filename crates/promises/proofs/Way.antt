@@ -22,9 +22,11 @@ use Rattle.model.specs.Editions.{leastOf}
 use Rattle.model.specs.Histories.{Call, begins, commits, abandons, inserts, deletes, returns, prunes, callBy, after}
 use Rattle.model.specs.Settings.{Machine, put, step}
 use Rattle.model.specs.Lent.{Outcome, freshLent}
-use Rattle.model.specs.Ended.{Asked, toFresh, toFreshSecond, toCheck, toOpen, toCommit, toAbandon, toInsert, toDelete, toReturn, toPrune, toLookup, toRange, toVisits, toDifference, toLife, ended, toState}
+use Rattle.model.specs.Ended.{Asked, toFresh, toFreshSecond, toCheck, toOpen, toCommit, toAbandon, toInsert, toDelete, toReturn, toPrune}
+use Rattle.model.specs.Ended.{toLookup, toRange, toVisits, toDifference, toLife, ended, toState}
+use Rattle.model.specs.Inner.{In}
 use Rattle.model.proofs.lists.Lists.{all-cons}
-use Rattle.model.proofs.lists.Members.{true-holds, either-left, either-right, bool-cases, In, all-by}
+use Rattle.model.proofs.lists.Members.{true-holds, either-left, either-right, bool-cases, all-by}
 use Rattle.model.proofs.sound.ByRule.{to-tests}
 use Rattle.model.proofs.turning.Turns.{fresh-sound}
 use Rattle.model.proofs.theorems.Editions.{edition-four}
@@ -59,7 +61,9 @@ balanced-in r low sure v from h =
     at x i (inl e) = either-left (isRoot x) (enough x) e
     at x i (inr e) =
         either-right (isRoot x) (enough x)
-        (le-leb (r .least) (live x) (stores.balanced (r .least) (omega arith) s sure v (record { from = from; upto = h }) x i (eqb-false (x .number) (rootAt (s .slots) v) e)))
+        (le-leb (r .least) (live x)
+        (stores.balanced (r .least) (omega arith) s sure v (record { from = from; upto = h }) x i
+        (eqb-false (x .number) (rootAt (s .slots) v) e)))
 
 -- ---- version 0
 
@@ -86,7 +90,8 @@ none-at-first k (suc n) m h = at (givesUp k (suc n))
 
 -- what each call hands on gives what is said of each state
 each-state : (P I : Beside → EditionStore → Type 0) → ((x : Beside) (r : EditionStore) → I x r → P x r)
-    → ((x : Beside) (r : EditionStore) (t : Turn) → fitting (kindOf (t .call)) ≡ true → I x r → I (onward x t) (ruledBy (x .bytes) r (t .call)))
+    → ((x : Beside) (r : EditionStore) (t : Turn) → fitting (kindOf (t .call)) ≡ true → I x r
+    → I (onward x t) (ruledBy (x .bytes) r (t .call)))
     → (ts : List Turn) → each fitting ts ≡ true → (x : Beside) (r : EditionStore) → I x r → EachState P x r ts
 each-state P I says hands [] f x r i = says x r i
 each-state P I says hands (t ∷ ts) f x r i =
@@ -94,12 +99,12 @@ each-state P I says hands (t ∷ ts) f x r i =
     (says x r i, each-state P I says hands ts h (onward x t) (ruledBy (x .bytes) r (t .call)) (hands x r t g i))
 
 -- bytes that hold the store which the rules make, by its edition
-record Holds (b : List ℕ) (r : EditionStore) : Type 0 where
+record HoldsRuled (b : List ℕ) (r : EditionStore) : Type 0 where
   pub edition : leastOf b ≡ r .least
   pub holds : storeOf b ≡ r .store
 
-module _ (b : List ℕ) (r : EditionStore) (ok : Accepts b) (i : Holds b r) where
-  changed : (c : Call) → fitting (kindOf (asks c)) ≡ true → (ns : List ℕ) → Holds (ended (asks c) b ns .store) (changedBy r c)
+module _ (b : List ℕ) (r : EditionStore) (ok : Accepts b) (i : HoldsRuled b r) where
+  changed : (c : Call) → fitting (kindOf (asks c)) ≡ true → (ns : List ℕ) → HoldsRuled (ended (asks c) b ns .store) (changedBy r c)
   changed c f ns =
       let l = change-leaves b ok c (ap fitting (sym (kind-asks c)) ∙ f) ns in
       record {
@@ -107,14 +112,15 @@ module _ (b : List ℕ) (r : EditionStore) (ok : Accepts b) (i : Holds b r) wher
         holds = l .holds ∙ ap₂ (λ (n : ℕ) (s : Store). after s (callBy n s c) .store) (i .edition) (i .holds);
       }
 
-  remade : (least : ℕ) → OfEdition least → Holds (freshLent least b .store) (remadeBy least b r)
+  remade : (least : ℕ) → OfEdition least → HoldsRuled (freshLent least b .store) (remadeBy least b r)
   remade least e = at (lengthOk least b) refl
     where
-      at : (t : Bool) → lengthOk least b ≡ t → Holds (freshLent least b .store) (pick t (record { least = least; store = fresh (sizeOf least b) }) r)
+      at : (t : Bool) → lengthOk least b ≡ t → HoldsRuled (freshLent least b .store)
+          (pick t (record { least = least; store = fresh (sizeOf least b) }) r)
       at true h = let l = fresh-leaves least e b h in record { edition = l .edition; holds = l .holds }
-      at false h = subst (λ (o : Outcome). Holds (o .store) r) (sym (made-wrong least b h)) i
+      at false h = subst (λ (o : Outcome). HoldsRuled (o .store) r) (sym (made-wrong least b h)) i
 
-  holds-on : (a : Asked) → fitting (kindOf a) ≡ true → (ns : List ℕ) → Holds (ended a b ns .store) (ruledBy b r a)
+  holds-on : (a : Asked) → fitting (kindOf a) ≡ true → (ns : List ℕ) → HoldsRuled (ended a b ns .store) (ruledBy b r a)
   holds-on toFresh f ns = remade 4 (inl refl)
   holds-on toFreshSecond f ns = remade 8 (inr refl)
   holds-on toCheck f ns = i
@@ -133,38 +139,48 @@ module _ (b : List ℕ) (r : EditionStore) (ok : Accepts b) (i : Holds b r) wher
   holds-on toState f ns = i
 
 -- the bytes hold the store that the rules make, the machine agrees with it, and they are bytes where those lent were
-record Stands (b : List ℕ) (x : Beside) (r : EditionStore) : Type 0 where
+record StandsRuled (b : List ℕ) (x : Beside) (r : EditionStore) : Type 0 where
   pub agreed : Agreed x
-  pub holds : Holds (x .bytes) r
+  pub holds : HoldsRuled (x .bytes) r
   pub bytes : Bytes b → Bytes (x .bytes)
 
 module _ (b : List ℕ) where
-  stands-on : (x : Beside) (r : EditionStore) (t : Turn) → fitting (kindOf (t .call)) ≡ true → Stands b x r → Stands b (onward x t) (ruledBy (x .bytes) r (t .call))
+  stands-on : (x : Beside) (r : EditionStore) (t : Turn) → fitting (kindOf (t .call)) ≡ true → StandsRuled b x r
+      → StandsRuled b (onward x t) (ruledBy (x .bytes) r (t .call))
   stands-on x r t f i = record {
     agreed = one-turn x (i .agreed) t f;
     holds = holds-on (x .bytes) r (i .agreed .accepted) (i .holds) (t .call) f (t .list);
     bytes = λ h. call-bytes (x .bytes) (i .agreed .accepted) (i .bytes h) (t .call) f (t .list);
   }
 
-  in-balance : (x : Beside) (r : EditionStore) → Stands b x r → BalancedIn r
+  in-balance : (x : Beside) (r : EditionStore) → StandsRuled b x r → BalancedIn r
   in-balance x r i =
       balanced-in r (subst (λ (n : ℕ). 4 ≤ n) (i .holds .edition) (four (x .bytes)))
-      (subst (λ (n : ℕ). T (sound n (r .store))) (i .holds .edition) (subst (λ (s : Store). T (sound (leastOf (x .bytes)) s)) (i .holds .holds) (held-sound (x .bytes) (i .agreed .accepted))))
+      (subst (λ (n : ℕ). T (sound n (r .store))) (i .holds .edition)
+      (subst (λ (s : Store). T (sound (leastOf (x .bytes)) s)) (i .holds .holds) (held-sound (x .bytes) (i .agreed .accepted))))
 
-  by-rules : (x : Beside) (r : EditionStore) → Stands b x r → Bytes b → x .bytes ≡ encode (r .least) (r .store)
+  by-rules : (x : Beside) (r : EditionStore) → StandsRuled b x r → Bytes b → x .bytes ≡ encode (r .least) (r .store)
   by-rules x r i h = sym (accepted (x .bytes) (i .bytes h) (i .agreed .accepted) .same) ∙ ap₂ encode (i .holds .edition) (i .holds .holds)
 
   pub lent-way : Accepts b → (ts : List Turn) → each fitting ts ≡ true → EachState (LentState b) (fromLent b) (ruledOf b) ts
   lent-way ok ts f =
-      each-state (LentState b) (Stands b) (λ x r i. record { answers = answers x (i .agreed); bytes = by-rules x r i; balanced = in-balance x r i }) stands-on ts f (fromLent b) (ruledOf b)
+      each-state (LentState b) (StandsRuled b)
+      (λ x r i. record { answers = answers x (i .agreed); bytes = by-rules x r i; balanced = in-balance x r i }) stands-on ts f (fromLent b)
+      (ruledOf b)
       (record { agreed = lent-agreed b ok; holds = record { edition = refl; holds = refl }; bytes = λ h. h })
 
 pub fresh-way : (least : ℕ) → OfEdition least → (n : ℕ) → 6 ≤ n → n ≤ 4096 → (ts : List Turn) → each fitting ts ≡ true
     → EachState FreshState (fromFresh least n) (record { least = least; store = fresh n }) ts
 fresh-way least e n six most ts f =
-    each-state FreshState (λ x r. Stands b x r × (x .machine .shows 0 ≡ []))
-    (λ x r i. record { answers = answers x (i .0 .agreed); bytes = by-rules b x r (i .0) (w .bytes); balanced = in-balance b x r (i .0); empty = i .1 })
-    (λ x r t g i. (stands-on b x r t g (i .0), none-at-first (kindOf (t .call)) (ended (t .call) (x .bytes) (t .list) .number) (x .machine) (i .1)))
+    each-state FreshState (λ x r. StandsRuled b x r × (x .machine .shows 0 ≡ []))
+    (λ x r i. record {
+      answers = answers x (i .0 .agreed);
+      bytes = by-rules b x r (i .0) (w .bytes);
+      balanced = in-balance b x r (i .0);
+      empty = i .1;
+    })
+    (λ x r t g i.
+    (stands-on b x r t g (i .0), none-at-first (kindOf (t .call)) (ended (t .call) (x .bytes) (t .list) .number) (x .machine) (i .1)))
     ts f (fromFresh least n) (record { least = least; store = fresh n })
     (record { agreed = fresh-agreed least e n six most; holds = record { edition = w .edition; holds = w .held }; bytes = λ h. h }, refl)
   where
@@ -172,4 +188,7 @@ fresh-way least e n six most ts f =
     b = encode least (fresh n)
 
     w : Written least (fresh n)
-    w = encoded-sound least e (fresh n) (true-holds (sound least (fresh n)) (to-tests least (fresh n) (fresh-sound least (let low : 4 ≤ least = edition-four least e in omega arith) n six most)))
+    w =
+        encoded-sound least e (fresh n)
+        (true-holds (sound least (fresh n))
+        (to-tests least (fresh n) (fresh-sound least (let low : 4 ≤ least = edition-four least e in omega arith) n six most)))

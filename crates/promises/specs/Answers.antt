@@ -22,7 +22,8 @@ use Rattle.model.specs.Editions.{leastOf}
 use Rattle.model.specs.Settings.{Machine}
 use Rattle.model.specs.Layout.{bit}
 use Rattle.model.specs.Lent.{listed}
-use Rattle.model.specs.Ended.{toOpen, toCommit, toAbandon, toInsert, toDelete, toReturn, toPrune, toLookup, toRange, toLife, toDifference, ended, ofLooked, ofListed, toState, Ended}
+use Rattle.model.specs.Ended.{toOpen, toCommit, toAbandon, toInsert, toDelete, toReturn, toPrune, toLookup, toRange, toLife, toDifference}
+use Rattle.model.specs.Ended.{ended, ofLooked, ofListed, toState, Ended}
 use Rattle.promises.specs.Accepts.{Accepts}
 use Rattle.promises.specs.Beside.{Beside}
 
@@ -87,14 +88,14 @@ aliveIn m k = isSome (find k (m .shows (suc (m .current))))
 abbrev pub unchangedIn : Machine → Bool
 unchangedIn m = samePairs (m .shows (m .current)) (m .shows (suc (m .current)))
 
--- The number of an insert, a delete or a return: that of the first test that holds; if none does, 0, or 12 or 13 (which an insert or a delete gives
--- exactly when the rules lack a page or a slot: `Lacking`).
+-- The number of an insert, a delete or a return: that of the first test that holds; if none does, 0, or 12 or 13 (which an insert or a
+-- delete gives exactly when the rules lack a page or a slot: `Lacking`).
 abbrev pub Gives : ℕ → ℕ → Type 0
 Gives zero n = (n ≡ 0) ⊎ ((n ≡ 12) ⊎ (n ≡ 13))
 Gives (suc m) n = n ≡ suc m
 
--- what state tells of the machine: the current version, second of its numbers, whether an update is open, the third, and the oldest version,
--- the seventh
+-- what state tells of the machine: the current version, second of its numbers, whether an update is open, the third, and the oldest
+-- version, the seventh
 pub record StateTells (m : Machine) (e : Ended) : Type 0 where
   pub number : e .number ≡ 0
   pub current : getD (e .results) 1 0 ≡ m .current
@@ -105,21 +106,28 @@ pub record Answers (x : Beside) : Type 0 where
   pub accepted : Accepts (x .bytes)
   -- readings
   pub lookup : (k v : ℕ) (ns : List ℕ) → ended (toLookup k v) (x .bytes) ns ≡ ofLooked (x .bytes) ns (lookedIn (x .machine) k v)
-  pub range : (lo hi v : ℕ) (ns : List ℕ) → ended (toRange lo hi v) (x .bytes) ns ≡ ofListed (x .bytes) (listed ns (rangedFrom (x .machine) lo hi v (length ns)))
-  pub difference : (u v : ℕ) (ns : List ℕ) → ended (toDifference u v) (x .bytes) ns ≡ ofListed (x .bytes) (listed ns (toldFrom (x .machine) u v (length ns)))
+  pub range : (lo hi v : ℕ) (ns : List ℕ) → ended (toRange lo hi v) (x .bytes) ns
+      ≡ ofListed (x .bytes) (listed ns (rangedFrom (x .machine) lo hi v (length ns)))
+  pub difference : (u v : ℕ) (ns : List ℕ) → ended (toDifference u v) (x .bytes) ns
+      ≡ ofListed (x .bytes) (listed ns (toldFrom (x .machine) u v (length ns)))
   pub life : (k : ℕ) (ns : List ℕ) → ended (toLife k) (x .bytes) ns ≡ ofListed (x .bytes) (listed ns (livedIn (x .machine) k (length ns)))
   pub state : (ns : List ℕ) → StateTells (x .machine) (ended toState (x .bytes) ns)
   -- "in key order", no key twice
-  pub order : (v : ℕ) → x .machine .oldest ≤ v → v ≤ lastIn (x .machine) → inOrder (λ (p q : Pair). ltb (p .key) (q .key)) (x .machine .shows v) ≡ true
+  pub order : (v : ℕ) → x .machine .oldest ≤ v → v ≤ lastIn (x .machine)
+      → inOrder (λ (p q : Pair). ltb (p .key) (q .key)) (x .machine .shows v) ≡ true
   -- "their number is those inserts less those deletes"
-  pub count : (v : ℕ) → x .machine .oldest ≤ v → v ≤ lastIn (x .machine) → length (x .machine .shows v) + x .tally .removed v ≡ x .tally .added v
+  pub count : (v : ℕ) → x .machine .oldest ≤ v → v ≤ lastIn (x .machine)
+      → length (x .machine .shows v) + x .tally .removed v ≡ x .tally .added v
   -- which calls are accepted
   pub opens : (ns : List ℕ) → ended toOpen (x .bytes) ns .number ≡ firstOf (openTests (x .machine .opened) (x .machine .current))
   pub commits : (ns : List ℕ) → ended toCommit (x .bytes) ns .number ≡ firstOf (commitTests (x .machine .opened) (unchangedIn (x .machine)))
   pub abandons : (ns : List ℕ) → ended toAbandon (x .bytes) ns .number ≡ firstOf (endTests (x .machine .opened))
-  pub inserts : (k v : ℕ) (ns : List ℕ) → Gives (firstOf (insertTests k (x .machine .opened) (aliveIn (x .machine) k))) (ended (toInsert k v) (x .bytes) ns .number)
-  pub deletes : (k : ℕ) (ns : List ℕ) → Gives (firstOf (deleteTests k (x .machine .opened) (aliveIn (x .machine) k))) (ended (toDelete k) (x .bytes) ns .number)
-  pub returns : (v : ℕ) (ns : List ℕ) → Gives (firstOf (returnTests (x .machine .oldest) (x .machine .current) (x .machine .opened) v)) (ended (toReturn v) (x .bytes) ns .number)
+  pub inserts : (k v : ℕ) (ns : List ℕ) → Gives (firstOf (insertTests k (x .machine .opened) (aliveIn (x .machine) k)))
+      (ended (toInsert k v) (x .bytes) ns .number)
+  pub deletes : (k : ℕ) (ns : List ℕ) → Gives (firstOf (deleteTests k (x .machine .opened) (aliveIn (x .machine) k)))
+      (ended (toDelete k) (x .bytes) ns .number)
+  pub returns : (v : ℕ) (ns : List ℕ) → Gives (firstOf (returnTests (x .machine .oldest) (x .machine .current) (x .machine .opened) v))
+      (ended (toReturn v) (x .bytes) ns .number)
   -- 2026-12: 3 for edition 1
   pub prunes : (v : ℕ) (ns : List ℕ) → ended (toPrune v) (x .bytes) ns .number
       ≡ firstOf (rule 3 (leb (leastOf (x .bytes)) 4) ∷ pruneTests (x .machine .oldest) (x .machine .current) (x .machine .opened) v)

@@ -17,6 +17,7 @@ pub record Names (least : ℕ) (b : List ℕ) : Type 0 where
 
 pub record EditionsApart : Type 0 where
   -- every call but making fresh, which reads nothing of the bytes: refused with 1 or 3, store and list untouched, no result; sound or not
-  pub old-programs : (c : Asked) → makes c ≡ false → (b ns : List ℕ) → Names 8 b → Refuses 1 b ns (endedBy 4 c b ns) ⊎ Refuses 3 b ns (endedBy 4 c b ns)
+  pub old-programs : (c : Asked) → makes c ≡ false → (b ns : List ℕ) → Names 8 b
+      → Refuses 1 b ns (endedBy 4 c b ns) ⊎ Refuses 3 b ns (endedBy 4 c b ns)
   -- on bytes of edition 1 each call gives and leaves what it did
   pub old-stores : (c : Asked) → makes c ≡ false → (b ns : List ℕ) → Names 4 b → ended c b ns ≡ endedBy 4 c b ns

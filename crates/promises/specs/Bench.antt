@@ -38,7 +38,10 @@ pub record KeptOut : Type 0 where
   -- whatever else speaks against the insert; by `refused` store and list are untouched
   pub five : (b : List ℕ) → Accepts b → (k x : ℕ) (ns : List ℕ) → benchLimit ≤ k → ended (toInsert k x) b ns .number ≡ 5
   -- from a fresh store of either edition on, whatever is called
-  pub fresh : (least : ℕ) → OfEdition least → (n : ℕ) → 6 ≤ n → n ≤ 4096 → (ts : List Turn) → each fitting ts ≡ true → BenchFree 0 (storeOf (runBytes (encode least (Store.fresh n)) ts))
-  -- a store that is clean from its current version on stays so, whatever is called, short of making it fresh or returning to an older version
+  pub fresh : (least : ℕ) → OfEdition least → (n : ℕ) → 6 ≤ n → n ≤ 4096 → (ts : List Turn) → each fitting ts ≡ true
+      → BenchFree 0 (storeOf (runBytes (encode least (Store.fresh n)) ts))
+  -- a store that is clean from its current version on stays so, whatever is called, short of making it fresh or returning to an older
+  -- version
   pub cleaned : (b : List ℕ) → Accepts b → BenchFree (storeOf b .current) (storeOf b)
-      → (ts : List Turn) → each fitting ts ≡ true → each (notBehind (storeOf b .current)) ts ≡ true → BenchFree (storeOf b .current) (storeOf (runBytes b ts))
+      → (ts : List Turn) → each fitting ts ≡ true → each (notBehind (storeOf b .current)) ts ≡ true
+      → BenchFree (storeOf b .current) (storeOf (runBytes b ts))

@@ -26,8 +26,10 @@ replayOf b t = replay 8 (decode 4 b) 0 (decode 4 b .current) (fresh (sizeOf 8 t)
 pub record Numbers (b t : List ℕ) : Type 0 where
   -- that of the first refusal
   pub early : firstOf (convertTests b t) ≢ 0 → convertLent b t .number ≡ firstOf (convertTests b t)
-  -- if none holds, 0, or "Where the replay gives 12 or 13, so does the converter": begin's 8 and 9, commit's 7, and 5, 10 and 11 of a step never come
-  pub else : firstOf (convertTests b t) ≡ 0 → (convertLent b t .number ≡ 0) ⊎ ((convertLent b t .number ≡ 12) ⊎ (convertLent b t .number ≡ 13))
+  -- if none holds, 0, or "Where the replay gives 12 or 13, so does the converter": begin's 8 and 9, commit's 7, and 5, 10 and 11 of a step
+  -- never come
+  pub else : firstOf (convertTests b t) ≡ 0 → (convertLent b t .number ≡ 0)
+      ⊎ ((convertLent b t .number ≡ 12) ⊎ (convertLent b t .number ≡ 13))
   -- 0 exactly when each step is done,
   pub done : firstOf (convertTests b t) ≡ 0 → convertLent b t .number ≡ 0 → (u : Store) × (replayOf b t ≡ reached u)
   pub goes : firstOf (convertTests b t) ≡ 0 → (u : Store) → replayOf b t ≡ reached u → convertLent b t .number ≡ 0

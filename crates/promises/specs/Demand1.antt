@@ -17,7 +17,9 @@ use Rattle.model.specs.Clean.{clean}
 use Rattle.model.specs.Counted.{rule8}
 use Rattle.model.specs.Judged.{lengthOk, magicOk, editionOk}
 use Rattle.model.specs.Editions.{leastOf}
-use Rattle.model.specs.Ended.{Asked, toFresh, toFreshSecond, toCheck, toOpen, toCommit, toAbandon, toInsert, toDelete, toReturn, toPrune, toLookup, toRange, toVisits, toDifference, toLife, Ended, ended, Meets, Untouched, Excepted, Named, Zeros, toState}
+use Rattle.model.specs.Ended.{Asked, toFresh, toFreshSecond, toCheck, toOpen, toCommit, toAbandon, toInsert, toDelete, toReturn, toPrune}
+use Rattle.model.specs.Ended.{toLookup, toRange, toVisits, toDifference, toLife, Ended, ended, Meets, Untouched, Excepted, Named, Zeros}
+use Rattle.model.specs.Ended.{toState}
 use Rattle.promises.specs.Accepts.{Accepts, storeOf}
 
 -- ---- every call is pinned: no second outcome meets its contract
@@ -37,8 +39,8 @@ Blank = (c : Asked) (b ns : List ℕ) (e : Ended) → Meets c b ns e → e .numb
 -- ---- "judges the store itself before it trusts it": the numbers 1 to 4, each exactly when
 
 -- What the five tests found: there are five bytes, the first four are right, the edition is 1 or 2, the length is right by that edition's
--- page size, the store is sound, its live counts with it (rule 8). 2026-08: "fewer than five bytes gives 1; otherwise 2, then 3, then 1 by the edition's page size, then the
--- rest as before".
+-- page size, the store is sound, its live counts with it (rule 8). 2026-08: "fewer than five bytes gives 1; otherwise 2, then 3, then 1 by
+-- the edition's page size, then the rest as before".
 pub record FirstNumbers (enough magic edition length rules : Bool) (n : ℕ) : Type 0 where
   pub one : n ≡ 1 ↔ ((enough ≡ false) ⊎ ((enough ≡ true) × ((magic ≡ true) × ((edition ≡ true) × (length ≡ false)))))
   pub two : n ≡ 2 ↔ ((enough ≡ true) × (magic ≡ false))
@@ -49,8 +51,8 @@ pub record FirstNumbers (enough magic edition length rules : Bool) (n : ℕ) : T
 abbrev pub editionKnown : List ℕ → Bool
 editionKnown b = editionOk 4 b || editionOk 8 b
 
--- The calls that judge the whole store: all but making fresh, which gives only 1, and lookup and range, which judge what they read (2026-04;
--- specs/Near has their numbers).
+-- The calls that judge the whole store: all but making fresh, which gives only 1, and lookup and range, which judge what they read
+-- (2026-04; specs/Near has their numbers).
 abbrev pub judgesAll : ℕ → Asked → Bool
 judgesAll least toFresh = false
 judgesAll least toFreshSecond = false
@@ -72,7 +74,8 @@ judgesAll least toState = true
 -- these, on any bytes
 abbrev pub Judges : Type 0
 Judges = (c : Asked) (b ns : List ℕ) → judgesAll (leastOf b) c ≡ true
-    → FirstNumbers (leb 5 (length b)) (magicOk b) (editionKnown b) (lengthOk (leastOf b) b) (clean (leastOf b) b && (sound (leastOf b) (storeOf b) && rule8 (leastOf b) b)) (ended c b ns .number)
+    → FirstNumbers (leb 5 (length b)) (magicOk b) (editionKnown b) (lengthOk (leastOf b) b)
+    (clean (leastOf b) b && (sound (leastOf b) (storeOf b) && rule8 (leastOf b) b)) (ended c b ns .number)
 
 -- so none of them touches bytes that check does not accept; lookup and range touch no store's (`ReadsOnly`)
 pub record TurnedAway (b ns : List ℕ) (e : Ended) : Type 0 where
@@ -91,7 +94,8 @@ OneForm = (a b : List ℕ) → Bytes a → Bytes b → Accepts a → Accepts b �
 -- ---- "Making fresh gives only 1": from any bytes, by the edition that is to be made
 
 pub record Made (least : ℕ) (c : Asked) (b ns : List ℕ) : Type 0 where
-  pub right : lengthOk least b ≡ true → ended c b ns ≡ record { number = 0; results = []; store = encode least (fresh (sizeOf least b)); list = ns }
+  pub right : lengthOk least b ≡ true → ended c b ns
+      ≡ record { number = 0; results = []; store = encode least (fresh (sizeOf least b)); list = ns }
   pub wrong : lengthOk least b ≡ false → ended c b ns ≡ record { number = 1; results = []; store = b; list = ns }
 
 pub record FreshMade : Type 0 where

@@ -74,8 +74,8 @@ pub record SettingsChange : Type 0 where
   pub delete : (b : List ℕ) (k : ℕ) (ns : List ℕ) → ended (toDelete k) b ns .number ≡ 0
       → Changes (storeOf b) (storeOf (ended (toDelete k) b ns .store)) (those (λ (y : Pair). not (eqb (y .key) k)))
 
--- ---- "whatever is done later, short of making the store fresh again, a committed version's answers stay"; since 2026-12 while it is kept: the
--- oldest version after the calls is not above it
+-- ---- "whatever is done later, short of making the store fresh again, a committed version's answers stay"; since 2026-12 while it is kept:
+-- the oldest version after the calls is not above it
 
 abbrev pub AnswersStay : Type 0
 AnswersStay = (b : List ℕ) → Accepts b → (ts : List Turn) → each fitting ts ≡ true → each notMaking ts ≡ true
@@ -87,7 +87,8 @@ ViewsStay = (b : List ℕ) → Accepts b → (ts : List Turn) → each fitting t
     → (v : ℕ) → storeOf (runBytes b ts) .oldest ≤ v → v ≤ storeOf b .current → SameView (storeOf b) (storeOf (runBytes b ts)) v
 
 abbrev pub EditionStays : Type 0
-EditionStays = (b : List ℕ) → Accepts b → (ts : List Turn) → each fitting ts ≡ true → each notMaking ts ≡ true → leastOf (runBytes b ts) ≡ leastOf b
+EditionStays =
+    (b : List ℕ) → Accepts b → (ts : List Turn) → each fitting ts ≡ true → each notMaking ts ≡ true → leastOf (runBytes b ts) ≡ leastOf b
 
 -- ---- "After every call the pages are byte for byte what the published page rules produce": model's Rules, Climb and Calls
 
@@ -104,13 +105,18 @@ ReadsOnly = (c : Asked) (b ns : List ℕ) → kindOf c ≡ reading → ended c b
 abbrev pub Balanced : Type 0
 Balanced = (b : List ℕ) → Accepts b → BalancedIn (ruledOf b)
 
--- ---- "An update is refused for lack of pages exactly when those rules need a page and none is free": 12, and 13 so for a slot, on any bytes
+-- ---- "An update is refused for lack of pages exactly when those rules need a page and none is free": 12, and 13 so for a slot, on any
+-- bytes
 
 pub record LackRefused (b ns : List ℕ) : Type 0 where
-  pub insert-page : (k x : ℕ) → ended (toInsert k x) b ns .number ≡ 12 ↔ (Accepts b × (InsertTried (storeOf b) k × NeedsPage (leastOf b) (storeOf b) k (inserting k x)))
-  pub insert-slot : (k x : ℕ) → ended (toInsert k x) b ns .number ≡ 13 ↔ (Accepts b × (InsertTried (storeOf b) k × NeedsSlot (leastOf b) (storeOf b) k (inserting k x)))
-  pub delete-page : (k : ℕ) → ended (toDelete k) b ns .number ≡ 12 ↔ (Accepts b × (DeleteTried (storeOf b) k × NeedsPage (leastOf b) (storeOf b) k (deleting k)))
-  pub delete-slot : (k : ℕ) → ended (toDelete k) b ns .number ≡ 13 ↔ (Accepts b × (DeleteTried (storeOf b) k × NeedsSlot (leastOf b) (storeOf b) k (deleting k)))
+  pub insert-page : (k x : ℕ) → ended (toInsert k x) b ns .number ≡ 12
+      ↔ (Accepts b × (InsertTried (storeOf b) k × NeedsPage (leastOf b) (storeOf b) k (inserting k x)))
+  pub insert-slot : (k x : ℕ) → ended (toInsert k x) b ns .number ≡ 13
+      ↔ (Accepts b × (InsertTried (storeOf b) k × NeedsSlot (leastOf b) (storeOf b) k (inserting k x)))
+  pub delete-page : (k : ℕ) → ended (toDelete k) b ns .number ≡ 12
+      ↔ (Accepts b × (DeleteTried (storeOf b) k × NeedsPage (leastOf b) (storeOf b) k (deleting k)))
+  pub delete-slot : (k : ℕ) → ended (toDelete k) b ns .number ≡ 13
+      ↔ (Accepts b × (DeleteTried (storeOf b) k × NeedsSlot (leastOf b) (storeOf b) k (deleting k)))
 
 abbrev pub Lacking : Type 0
 Lacking = (b ns : List ℕ) → LackRefused b ns

@@ -35,7 +35,8 @@ pub record BothReadable (b : List ℕ) (u v : ℕ) : Type 0 where
 
 pub record DeltasGiven (b : List ℕ) (u v : ℕ) (ds : List Delta) : Type 0 where
   pub room : (ns : List ℕ) → 4 * length ds ≤ length ns
-      → ended (toDifference u v) b ns ≡ record { number = 0; results = length ds ∷ []; store = b; list = flatMap deltaNumbers ds ++ drop (4 * length ds) ns }
+      → ended (toDifference u v) b ns
+      ≡ record { number = 0; results = length ds ∷ []; store = b; list = flatMap deltaNumbers ds ++ drop (4 * length ds) ns }
   pub short : (ns : List ℕ) → length ns < 4 * length ds
       → ended (toDifference u v) b ns ≡ record { number = 14; results = length ds ∷ []; store = b; list = ns }
 
@@ -69,11 +70,13 @@ DifferenceNone = (b : List ℕ) (v : ℕ) → BothReadable b v v → (ns : List 
 -- ---- from the second version to the first: the same, with the sides exchanged
 
 abbrev pub DifferenceExchanged : Type 0
-DifferenceExchanged = (b : List ℕ) (u v : ℕ) → BothReadable b u v → differences (storeOf b) v u ≡ map exchanged (differences (storeOf b) u v)
+DifferenceExchanged =
+    (b : List ℕ) (u v : ℕ) → BothReadable b u v → differences (storeOf b) v u ≡ map exchanged (differences (storeOf b) u v)
 
 -- ---- between two committed versions it stays, whatever is called later, short of making fresh
 
 abbrev pub DifferenceStays : Type 0
 DifferenceStays = (b : List ℕ) → Accepts b → (ts : List Turn) → each fitting ts ≡ true → each notMaking ts ≡ true
-    → (u v : ℕ) → storeOf (runBytes b ts) .oldest ≤ u → u ≤ storeOf b .current → storeOf (runBytes b ts) .oldest ≤ v → v ≤ storeOf b .current → (ns : List ℕ)
+    → (u v : ℕ) → storeOf (runBytes b ts) .oldest ≤ u → u ≤ storeOf b .current
+    → storeOf (runBytes b ts) .oldest ≤ v → v ≤ storeOf b .current → (ns : List ℕ)
     → SaysSame (ended (toDifference u v) (runBytes b ts) ns) (ended (toDifference u v) b ns)

@@ -17,7 +17,8 @@ use Rattle.model.specs.Sound.{isPage, spanOk, entryOk, zeroed, rule2, rule3, ru
 -- `pageOk` without "level 4 bits (0 free, 1 leaf, 2 to 7 index)"
 abbrev pub pageOkAnyLevel : ℕ → ℕ → ℕ → Page → Bool
 pageOkAnyLevel least l size p =
-    leb (length (p .entries)) (5 * least) && spanOk l (p .start) (p .end) && inOrder before (p .entries) && all (entryOk l size (p .level)) (p .entries)
+    leb (length (p .entries)) (5 * least) && spanOk l (p .start) (p .end) && inOrder before (p .entries)
+    && all (entryOk l size (p .level)) (p .entries)
 
 abbrev pub pageFineAnyLevel : ℕ → ℕ → ℕ → Page → Bool
 pageFineAnyLevel least l size p = pick (isFree p) (zeroed p) (pageOkAnyLevel least l size p)

@@ -1,6 +1,6 @@
--- 2026-09, carry the live count: "In edition 2 .. the six zero bits right after a page's end field become the number of entries alive at the
--- last version. A killed page has 0. Soundness gains rule 8, that it is right, abandon restores it, and 01's byte statement covers it." The
--- first two sentences are here. Rule 8 is in `Judges` (Demand1); what an abandon restores (`Abandoned`) and what the page rules make
+-- 2026-09, carry the live count: "In edition 2 .. the six zero bits right after a page's end field become the number of entries alive at
+-- the last version. A killed page has 0. Soundness gains rule 8, that it is right, abandon restores it, and 01's byte statement covers it."
+-- The first two sentences are here. Rule 8 is in `Judges` (Demand1); what an abandon restores (`Abandoned`) and what the page rules make
 -- (`ByTheRules`, `OneForm`) is said of every byte, of these bits with them.
 -- Assumes nothing.
 use Prim.Native.Nat.{ℕ}

@@ -25,8 +25,14 @@ use Rattle.promises.specs.Views.{SaysSame}
 pub record StretchesGiven (b : List ℕ) (k : ℕ) (ns : List ℕ) : Type 0 where
   pub room : 3 * length (life (storeOf b) k) ≤ length ns
       → ended (toLife k) b ns
-      ≡ record { number = 0; results = length (life (storeOf b) k) ∷ []; store = b; list = flatMap stretchNumbers (life (storeOf b) k) ++ drop (3 * length (life (storeOf b) k)) ns }
-  pub short : length ns < 3 * length (life (storeOf b) k) → ended (toLife k) b ns ≡ record { number = 14; results = length (life (storeOf b) k) ∷ []; store = b; list = ns }
+      ≡ record {
+        number = 0;
+        results = length (life (storeOf b) k) ∷ [];
+        store = b;
+        list = flatMap stretchNumbers (life (storeOf b) k) ++ drop (3 * length (life (storeOf b) k)) ns;
+      }
+  pub short : length ns < 3 * length (life (storeOf b) k)
+      → ended (toLife k) b ns ≡ record { number = 14; results = length (life (storeOf b) k) ∷ []; store = b; list = ns }
 
 abbrev pub LifeGiven : Type 0
 LifeGiven = (b : List ℕ) → Accepts b → (k : ℕ) → k < keyLimit → (ns : List ℕ) → StretchesGiven b k ns

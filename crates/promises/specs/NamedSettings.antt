@@ -1,6 +1,6 @@
--- 2026-14, named settings: "It inserts only a value of the kind inside the limits, both ends included [..]; a NaN is refused. An unknown key
--- is refused with 17 on reading and writing, never skipped. [..] The store's promises are used as they stand." What the layer's calls give
--- is `endedNamed` (model's Named), which their contracts cite.
+-- 2026-14, named settings: "It inserts only a value of the kind inside the limits, both ends included [..]; a NaN is refused. An unknown
+-- key is refused with 17 on reading and writing, never skipped. [..] The store's promises are used as they stand." What the layer's calls
+-- give is `endedNamed` (model's Named), which their contracts cite.
 -- Assumes nothing.
 use Prim.Native.Nat.{ℕ, _*_, _/_, _≤_, _<_}
 use mathlib.Core.Bool.{Bool, true, false}
@@ -64,10 +64,11 @@ EachWithin table (t ∷ ts) = Within (t .table) table × EachWithin table ts
 -- ---- a number other than 0 leaves store and list as they were
 
 abbrev pub NamedRefused : Type 0
-NamedRefused = (table : List ℕ) (c : ByName) (b ns : List ℕ) → endedNamed table c b ns .number ≢ 0 → Untouched b ns (endedNamed table c b ns)
+NamedRefused =
+    (table : List ℕ) (c : ByName) (b ns : List ℕ) → endedNamed table c b ns .number ≢ 0 → Untouched b ns (endedNamed table c b ns)
 
--- ---- "It inserts only a value of the kind inside the limits": from a fresh store on, whatever is called by name, every setting of every version
--- has a known key and an admitted value
+-- ---- "It inserts only a value of the kind inside the limits": from a fresh store on, whatever is called by name, every setting of every
+-- version has a known key and an admitted value
 
 -- a known key, and a value of its kind inside the limits
 abbrev pub admitted : List ℕ → Pair → Bool
@@ -94,7 +95,8 @@ AdmittedOnly = (least n : ℕ) (table : List ℕ) (ts : List NamedTurn) → Name
 -- "a NaN is refused": no level is one
 abbrev pub NoNan : Type 0
 NoNan = (least n : ℕ) (table : List ℕ) (ts : List NamedTurn) → NamedHistory least n table ts
-    → (v : ℕ) → v ≤ lastShown least n ts → (k x : ℕ) (low high : Float) → knownIn table k ≡ Is (Level low high) → find k (shown least n ts v) ≡ some x → nanBits binary32 x ≡ false
+    → (v : ℕ) → v ≤ lastShown least n ts → (k x : ℕ) (low high : Float) → knownIn table k ≡ Is (Level low high)
+    → find k (shown least n ts v) ≡ some x → nanBits binary32 x ≡ false
 
 -- ---- "never skipped": a range that is done shows every setting from lo to hi, and its program knows each of them
 
@@ -110,8 +112,8 @@ abbrev pub NeverSkipped : Type 0
 NeverSkipped = (table b : List ℕ) (lo hi v : ℕ) (ns : List ℕ)
     → endedNamed table (byRange lo hi v) b ns .number ≡ 0 → ShowsAll table b lo hi v ns (between lo hi (settings (storeOf b) v))
 
--- ---- Going back is also a release. A newer program wrote a setting whose key the older one does not know: by name the older program gets 17 and
--- nothing else, from its reading, from a range around it, and where it would write or end it.
+-- ---- Going back is also a release. A newer program wrote a setting whose key the older one does not know: by name the older program gets
+-- 17 and nothing else, from its reading, from a range around it, and where it would write or end it.
 
 -- refused with 17: no result, and nothing touched
 abbrev pub seventeen : List ℕ → List ℕ → List ℕ → Ended

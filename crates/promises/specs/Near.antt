@@ -1,5 +1,5 @@
--- 2026-04, "lookups judge only what they read": the numbers of lookup and range on any bytes, each exactly when; what they answer otherwise;
--- that pages off their walk make no difference; and that on a sound store the answers stay.
+-- 2026-04, "lookups judge only what they read": the numbers of lookup and range on any bytes, each exactly when; what they answer
+-- otherwise; that pages off their walk make no difference; and that on a sound store the answers stay.
 -- `least` is 4 in edition 1 and 8 in edition 2; the calls go by the edition that the bytes name.
 -- Assumes nothing.
 use Prim.Native.Nat.{ℕ, zero, suc, _*_, _≤_, _<_}
@@ -39,19 +39,23 @@ Each f (x ∷ xs) = f x × Each f xs
 -- ---- "lookup and range give 4 exactly when": the clauses
 
 module _ (least : ℕ) (b : List ℕ) where
-  -- "the header, a directory slot .. breaks rules 1 or 2 of 01 locally": the header's page count, zero bits or root count, or an unused slot;
-  -- its version; the oldest, above the current one or in edition 1; the page of a used slot; rule 2
+  -- "the header, a directory slot .. breaks rules 1 or 2 of 01 locally": the header's page count, zero bits or root count, or an unused
+  -- slot; its version; the oldest, above the current one or in edition 1; the page of a used slot; rule 2
   abbrev pub FrontWrong : Type 0
   FrontWrong =
       let s = decode least b in
-      (cleanFront least b ≡ false) ⊎ ((1048574 < last s) ⊎ ((pick (leb least 4) 0 (s .current) < s .oldest) ⊎ (Some (λ (x : Slot). isPage (length (s .pages)) (x .root) ≡ false) (s .slots) ⊎ (rule2 s ≡ false))))
+      (cleanFront least b ≡ false)
+      ⊎ ((1048574 < last s)
+      ⊎ ((pick (leb least 4) 0 (s .current) < s .oldest)
+      ⊎ (Some (λ (x : Slot). isPage (length (s .pages)) (x .root) ≡ false) (s .slots) ⊎ (rule2 s ≡ false))))
 
   abbrev pub pageIn : ℕ → Page
   pageIn n = page (decode least b .pages) n
 
   -- "a page on their own walk breaks rules 1 or 2 of 01 locally"; rule 2 speaks of slots alone
   abbrev pub Breaks : ℕ → Type 0
-  Breaks n = (cleanPage least (pageOf least b n) && pageOk least (last (decode least b)) (length (decode least b .pages)) (pageIn n)) ≡ false
+  Breaks n =
+      (cleanPage least (pageOf least b n) && pageOk least (last (decode least b)) (length (decode least b .pages)) (pageIn n)) ≡ false
 
   -- "a child's level isn't one lower": it is not the one that is due
   abbrev pub OtherLevel : ℕ → ℕ → Type 0
@@ -68,13 +72,14 @@ module _ (least : ℕ) (b : List ℕ) where
     WrongDown (suc up) k n =
         Breaks n ⊎ (OtherLevel (suc (suc up)) n ⊎ (NoRouter k n ⊎ WrongDown up k (around k (pairsAt v (pageIn n)) .own .value)))
 
-    -- "a range does so for its low key, and follows every later router alive and at or below its high key, whose own low key is then the one
-    -- its child must cover" (`followed`)
+    -- "a range does so for its low key, and follows every later router alive and at or below its high key, whose own low key is then the
+    -- one its child must cover" (`followed`)
     abbrev pub WrongAcross : ℕ → ℕ → ℕ → ℕ → Type 0
     WrongAcross zero hi at n = Breaks n ⊎ OtherLevel 1 n
     WrongAcross (suc up) hi at n =
         Breaks n
-        ⊎ (OtherLevel (suc (suc up)) n ⊎ (NoRouter at n ⊎ Some (λ (r : Pair). WrongAcross up hi (r .key) (r .value)) (followed at hi (pairsAt v (pageIn n)))))
+        ⊎ (OtherLevel (suc (suc up)) n
+        ⊎ (NoRouter at n ⊎ Some (λ (r : Pair). WrongAcross up hi (r .key) (r .value)) (followed at hi (pairsAt v (pageIn n)))))
 
     -- "the version's root is a free page", or its walk is wrong
     abbrev pub WrongFrom : (ℕ → ℕ → Type 0) → Type 0
@@ -89,28 +94,33 @@ pub record ReadingNumbers (enough magic edition length : Bool) (front bad late w
   pub one : n ≡ 1 ↔ ((enough ≡ false) ⊎ ((enough ≡ true) × ((magic ≡ true) × ((edition ≡ true) × (length ≡ false)))))
   pub two : n ≡ 2 ↔ ((enough ≡ true) × (magic ≡ false))
   pub three : n ≡ 3 ↔ ((enough ≡ true) × ((magic ≡ true) × (edition ≡ false)))
-  pub four : n ≡ 4 ↔ ((enough ≡ true) × ((magic ≡ true) × ((edition ≡ true) × ((length ≡ true) × (front ⊎ ((bad → ⊥) × ((late → ⊥) × walk)))))))
+  pub four : n ≡ 4
+      ↔ ((enough ≡ true) × ((magic ≡ true) × ((edition ≡ true) × ((length ≡ true) × (front ⊎ ((bad → ⊥) × ((late → ⊥) × walk)))))))
   pub five : n ≡ 5 ↔ ((enough ≡ true) × ((magic ≡ true) × ((edition ≡ true) × ((length ≡ true) × ((front → ⊥) × bad)))))
   pub six : n ≡ 6 ↔ ((enough ≡ true) × ((magic ≡ true) × ((edition ≡ true) × ((length ≡ true) × ((front → ⊥) × ((bad → ⊥) × late))))))
 
 -- any bytes and numbers
 pub record LookupJudges : Type 0 where
   pub numbers : (b : List ℕ) (k v : ℕ) (ns : List ℕ)
-      → ReadingNumbers (leb 5 (length b)) (magicOk b) (editionKnown b) (lengthOk (leastOf b) b) (FrontWrong (leastOf b) b) (keyLimit ≤ k) ((last (storeOf b) < v) ⊎ (v < storeOf b .oldest))
+      → ReadingNumbers (leb 5 (length b)) (magicOk b) (editionKnown b) (lengthOk (leastOf b) b) (FrontWrong (leastOf b) b) (keyLimit ≤ k)
+      ((last (storeOf b) < v) ⊎ (v < storeOf b .oldest))
       (WrongFrom (leastOf b) b v (λ up n. WrongDown (leastOf b) b v up k n)) (ended (toLookup k v) b ns .number)
-  -- "Otherwise they answer by the entries alive on the walked pages in walk order, a lookup by the first with its key, whether or not the rest
-  -- is sound."
+  -- "Otherwise they answer by the entries alive on the walked pages in walk order, a lookup by the first with its key, whether or not the
+  -- rest is sound."
   pub answers : (b : List ℕ) (k v : ℕ) (ns : List ℕ) → ended (toLookup k v) b ns .number ≡ 0
       → ended (toLookup k v) b ns ≡ ofLooked b ns (lookedAt (lookup (storeOf b) k v))
 
 pub record RangeJudges : Type 0 where
   pub numbers : (b : List ℕ) (lo hi v : ℕ) (ns : List ℕ)
-      → ReadingNumbers (leb 5 (length b)) (magicOk b) (editionKnown b) (lengthOk (leastOf b) b) (FrontWrong (leastOf b) b) ((keyLimit ≤ lo) ⊎ ((keyLimit ≤ hi) ⊎ (hi < lo))) ((last (storeOf b) < v) ⊎ (v < storeOf b .oldest))
+      → ReadingNumbers (leb 5 (length b)) (magicOk b) (editionKnown b) (lengthOk (leastOf b) b) (FrontWrong (leastOf b) b)
+      ((keyLimit ≤ lo) ⊎ ((keyLimit ≤ hi) ⊎ (hi < lo))) ((last (storeOf b) < v) ⊎ (v < storeOf b .oldest))
       (WrongFrom (leastOf b) b v (λ up n. WrongAcross (leastOf b) b v up hi lo n)) (ended (toRange lo hi v) b ns .number)
   -- 0, or 14 where the list has not the room for two numbers a setting: all of its walk is judged before
-  pub answers : (b : List ℕ) (lo hi v : ℕ) (ns : List ℕ) → (ended (toRange lo hi v) b ns .number ≡ 0) ⊎ (ended (toRange lo hi v) b ns .number ≡ 14)
+  pub answers : (b : List ℕ) (lo hi v : ℕ) (ns : List ℕ)
+      → (ended (toRange lo hi v) b ns .number ≡ 0) ⊎ (ended (toRange lo hi v) b ns .number ≡ 14)
       → ended (toRange lo hi v) b ns ≡ ofListed b (listed ns (rangedBy 0 (length ns) (rangeOf (storeOf b) lo hi v)))
-  pub fourteen : (b : List ℕ) (lo hi v : ℕ) (ns : List ℕ) → ended (toRange lo hi v) b ns .number ≡ 14 → length ns < 2 * length (rangeOf (storeOf b) lo hi v)
+  pub fourteen : (b : List ℕ) (lo hi v : ℕ) (ns : List ℕ) → ended (toRange lo hi v) b ns .number ≡ 14
+      → length ns < 2 * length (rangeOf (storeOf b) lo hi v)
 
 -- ---- "judge only what they read": bytes that differ only in pages off the walk give the same answer
 

@@ -1,5 +1,5 @@
--- 2026-12, "drop what the law lets us drop": when a prune is done, and what it leaves, whatever bytes it was lent. That later calls keep to the
--- rules is said of every call (`HistoryLent`).
+-- 2026-12, "drop what the law lets us drop": when a prune is done, and what it leaves, whatever bytes it was lent. That later calls keep to
+-- the rules is said of every call (`HistoryLent`).
 -- Assumes nothing.
 use Prim.Native.Nat.{ℕ, _≤_, _<_}
 use mathlib.Core.Bool.{true, false}
@@ -56,9 +56,11 @@ pub record Pruned (b : List ℕ) (v : ℕ) (b′ : List ℕ) : Type 0 where
   pub gone : (k u : ℕ) (ns : List ℕ) → k < keyLimit → u < v → ended (toLookup k u) b′ ns .number ≡ 6
   -- the same prune again is done, and changes no byte
   pub again : (ns : List ℕ) → ended (toPrune v) b′ ns ≡ record { number = 0; results = []; store = b′; list = ns }
-  -- "freed pages are used again". The free pages then are those that were free, and those that were used and ended at or before the version ..
+  -- "freed pages are used again". The free pages then are those that were free, and those that were used and ended at or before the version
+  -- ..
   pub spare : (n : ℕ) → has n (freeOnes (storeOf b′ .pages)) ≡ true
-      ↔ ((has n (freeOnes (storeOf b .pages)) ≡ true) ⊎ ((isFree (page (storeOf b .pages) n) ≡ false) × (page (storeOf b .pages) n .end ≤ v)))
+      ↔ ((has n (freeOnes (storeOf b .pages)) ≡ true)
+      ⊎ ((isFree (page (storeOf b .pages) n) ≡ false) × (page (storeOf b .pages) n .end ≤ v)))
   -- .. an update that is opened next begins with them ..
   pub begun : (ns : List ℕ) → storeOf (ended toOpen b′ ns .store) .pages ≡ storeOf b′ .pages
   -- .. and after it, whatever calls come between, 12 is given exactly when the rules need a page and none is free, 13 so for a slot
@@ -67,8 +69,8 @@ pub record Pruned (b : List ℕ) (v : ℕ) (b′ : List ℕ) : Type 0 where
 abbrev pub PruneLeaves : Type 0
 PruneLeaves = (b : List ℕ) (v : ℕ) (ns : List ℕ) → ended (toPrune v) b ns .number ≡ 0 → Pruned b v (ended (toPrune v) b ns .store)
 
--- ---- To the oldest version itself: done, and on a store that calls made, from a fresh one of either edition on, it changes no byte. (A store
--- lent from elsewhere can hold pages that ended by its oldest version; there they are freed.)
+-- ---- To the oldest version itself: done, and on a store that calls made, from a fresh one of either edition on, it changes no byte. (A
+-- store lent from elsewhere can hold pages that ended by its oldest version; there they are freed.)
 
 abbrev pub PruneIdle : Type 0
 PruneIdle = (least : ℕ) → OfEdition least → (n : ℕ) → 6 ≤ n → n ≤ 4096 → (ts : List Turn) → each fitting ts ≡ true

@@ -36,7 +36,8 @@ ExactlyWhen = (b ns : List ℕ) → Commits b ns
 
 abbrev pub KeyForKey : Type 0
 KeyForKey = (b : List ℕ) → OpenAccepted b
-    → Equal (storeOf b) ↔ ((k : ℕ) (ns : List ℕ) → SaysSame (ended (toLookup k (next (storeOf b))) b ns) (ended (toLookup k (storeOf b .current)) b ns))
+    → Equal (storeOf b)
+    ↔ ((k : ℕ) (ns : List ℕ) → SaysSame (ended (toLookup k (next (storeOf b))) b ns) (ended (toLookup k (storeOf b .current)) b ns))
 
 -- ---- and exactly when the list of 2026-03, from the current version to the open one, is empty
 
@@ -50,7 +51,8 @@ abbrev pub UndoneInsert : Type 0
 UndoneInsert = (b : List ℕ) (k x : ℕ) (ns : List ℕ) → x < 4294967296
     → let b₁ = ended (toInsert k x) b ns .store in
     let b₂ = ended (toDelete k) b₁ ns .store in
-    ended (toInsert k x) b ns .number ≡ 0 → ended (toDelete k) b₁ ns .number ≡ 0 → ended toCommit b₂ ns .number ≡ ended toCommit b ns .number
+    ended (toInsert k x) b ns .number ≡ 0 → ended (toDelete k) b₁ ns .number ≡ 0
+    → ended toCommit b₂ ns .number ≡ ended toCommit b ns .number
 
 pub record EmptyReleases : Type 0 where
   pub exactly : ExactlyWhen

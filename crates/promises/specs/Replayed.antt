@@ -46,4 +46,5 @@ pub record TableLent : Type 0 where
       (ended (toLookup 15 1) b ns ≡ record { number = 0; results = 1 ∷ 115 ∷ []; store = b; list = ns })
       × (ended (toLookup 15 2) b ns ≡ record { number = 0; results = 0 ∷ 0 ∷ []; store = b; list = ns })
   -- P12: "abandon gives the bytes before the open."
-  pub twelfth : madeOn 16 (reopened twenty ++ (deletes 1 ∷ insertKey 1 ∷ abandons ∷ [])) .store ≡ madeOn 16 (twenty ++ (commits ∷ [])) .store
+  pub twelfth : madeOn 16 (reopened twenty ++ (deletes 1 ∷ insertKey 1 ∷ abandons ∷ [])) .store
+      ≡ madeOn 16 (twenty ++ (commits ∷ [])) .store

@@ -25,7 +25,8 @@ use Rattle.promises.specs.Demand3.{opening}
 use Rattle.promises.specs.Differences.{differences}
 use Rattle.promises.specs.Replayed.{turnOf}
 
--- ---- its number: 1 to 4 as every call's (`Judges`); then "6 for a version above the current one, and 7 .. with no update open"; else 0, 12 or 13
+-- ---- its number: 1 to 4 as every call's (`Judges`); then "6 for a version above the current one, and 7 .. with no update open"; else 0,
+-- 12 or 13
 
 abbrev pub ReturnGives : Type 0
 ReturnGives = (b : List ℕ) → Accepts b → (v : ℕ) (ns : List ℕ)
@@ -43,13 +44,14 @@ pub record Returned (b : List ℕ) (v : ℕ) (b′ : List ℕ) : Type 0 where
   -- every committed version is as it was, pages and all
   pub older : (u : ℕ) → storeOf b .oldest ≤ u → u ≤ storeOf b .current → SameView (storeOf b) (storeOf b′) u
   -- nothing differs (2026-03) from that version to the open one
-  pub nothing-differs : (ns : List ℕ) → ended (toDifference v (next (storeOf b′))) b′ ns ≡ record { number = 0; results = 0 ∷ []; store = b′; list = ns }
+  pub nothing-differs : (ns : List ℕ) → ended (toDifference v (next (storeOf b′))) b′ ns
+      ≡ record { number = 0; results = 0 ∷ []; store = b′; list = ns }
 
 abbrev pub ReturnDone : Type 0
 ReturnDone = (b : List ℕ) (v : ℕ) (ns : List ℕ) → ended (toReturn v) b ns .number ≡ 0 → Returned b v (ended (toReturn v) b ns .store)
 
--- ---- "first it deletes .., then it inserts .., each in rising key order and each exactly as the single call": done, it leaves the bytes that
--- these calls leave, made one after the other. A bench key's insert would be refused, so there is none on either side.
+-- ---- "first it deletes .., then it inserts .., each in rising key order and each exactly as the single call": done, it leaves the bytes
+-- that these calls leave, made one after the other. A bench key's insert would be refused, so there is none on either side.
 
 abbrev pub stepsOf : List Delta → List Call
 stepsOf ds = map (λ (d : Delta). deletes (d .key)) (those goes ds) ++ map (λ (d : Delta). inserts (d .key) (d .new)) (those comes ds)

@@ -16,6 +16,8 @@ pub record NoRangeOutgrows : Type 0 where
   pub most : (b : List ℕ) → Accepts b → (v : ℕ) → storeOf b .oldest ≤ v → v ≤ last (storeOf b)
       → length (settings (storeOf b) v) ≤ (length (storeOf b .pages) - 5) * (5 * leastOf b)
   -- With 256 pages of edition 1 these are 5,020, which take 10,040 numbers.
-  pub console : (b : List ℕ) → Accepts b → leastOf b ≡ 4 → length (storeOf b .pages) ≤ 256 → (v : ℕ) → storeOf b .oldest ≤ v → v ≤ last (storeOf b) → length (settings (storeOf b) v) ≤ 5020
+  pub console : (b : List ℕ) → Accepts b → leastOf b ≡ 4 → length (storeOf b .pages) ≤ 256 → (v : ℕ) → storeOf b .oldest ≤ v
+      → v ≤ last (storeOf b) → length (settings (storeOf b) v) ≤ 5020
   -- So no range there gives 14.
-  pub room : (b : List ℕ) → Accepts b → leastOf b ≡ 4 → length (storeOf b .pages) ≤ 256 → (lo hi v : ℕ) (ns : List ℕ) → 10040 ≤ length ns → ended (toRange lo hi v) b ns .number ≢ 14
+  pub room : (b : List ℕ) → Accepts b → leastOf b ≡ 4 → length (storeOf b .pages) ≤ 256 → (lo hi v : ℕ) (ns : List ℕ) → 10040 ≤ length ns
+      → ended (toRange lo hi v) b ns .number ≢ 14

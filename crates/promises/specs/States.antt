@@ -1,7 +1,7 @@
 -- What a store tells of itself: the call state, on accepted bytes.
--- That bytes which check does not accept get check's number, with all told 0 and nothing touched, is `judges`, `untrusted` and `blank`; that
--- from a fresh store on the current version, whether an update is open and the oldest version are the plain machine's is `history` (Answers,
--- field `state`).
+-- That bytes which check does not accept get check's number, with all told 0 and nothing touched, is `judges`, `untrusted` and `blank`;
+-- that from a fresh store on the current version, whether an update is open and the oldest version are the plain machine's is `history`
+-- (Answers, field `state`).
 -- Assumes nothing.
 use Prim.Native.Nat.{ℕ, _*_}
 use mathlib.Core.Bool.{true}

@@ -15,7 +15,8 @@ use Rattle.model.specs.Layout.{encode, sizeOf}
 use Rattle.model.specs.Judged.{lengthOk}
 use Rattle.model.specs.Editions.{leastOf}
 use Rattle.model.specs.Histories.{Call, begins, commits, abandons, inserts, deletes, returns, prunes, callBy, after}
-use Rattle.model.specs.Ended.{Asked, toFresh, toFreshSecond, toCheck, toOpen, toCommit, toAbandon, toInsert, toDelete, toReturn, toPrune, toLookup, toRange, toVisits, toDifference, toLife, toState}
+use Rattle.model.specs.Ended.{Asked, toFresh, toFreshSecond, toCheck, toOpen, toCommit, toAbandon, toInsert, toDelete, toReturn, toPrune}
+use Rattle.model.specs.Ended.{toLookup, toRange, toVisits, toDifference, toLife, toState}
 use Rattle.promises.specs.Accepts.{storeOf}
 use Rattle.promises.specs.Runs.{Turn}
 use Rattle.promises.specs.Beside.{Beside, onward}
@@ -65,7 +66,9 @@ EachState P x r (t ∷ ts) = P x r × EachState P (onward x t) (ruledBy (x .byte
 -- "Every page that a version reaches, its root aside, holds at least four entries alive at that version."
 abbrev pub BalancedIn : EditionStore → Type 0
 BalancedIn r = (v : ℕ) → r .store .oldest ≤ v → v ≤ last (r .store)
-    → all (λ (x : Seen). eqb (x .number) (rootAt (r .store .slots) v) || leb (r .least) (length (pairsAt v (page (r .store .pages) (x .number))))) (seen (r .store) v) ≡ true
+    → all
+    (λ (x : Seen). eqb (x .number) (rootAt (r .store .slots) v) || leb (r .least) (length (pairsAt v (page (r .store .pages) (x .number)))))
+    (seen (r .store) v) ≡ true
 
 -- a state on the way from the lent bytes b
 pub record LentState (b : List ℕ) (x : Beside) (r : EditionStore) : Type 0 where

@@ -59,10 +59,7 @@ fn nexts_fine(
     let mut k = i;
     while k < n {
         if b <= t {
-            return Within {
-                fine: true,
-                left: rest,
-            };
+            break;
         }
         let e = page::entry_at(p, k);
         let r = next_fine(s, l, up, m, t, b, e, rest);

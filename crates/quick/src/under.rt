@@ -6,10 +6,12 @@ ghost use Prim.Native.Nat.{_+_, _*_, _-_, _≤_};
 ghost use lib.Dec.{ltb};
 ghost use Rattle.model.specs.Basic.{pick};
 ghost use Rattle.model.specs.Limits.{Edition};
-ghost use Rattle.model.specs.Layout.{readEntry, readEntries, decode};
-ghost use Rattle.spans.specs.Quick.{under};
+ghost use Rattle.model.specs.Layout.{readEntry, readEntries, readHeader, decode};
+ghost use Rattle.spans.specs.Quick.{under, lasts};
+ghost use Rattle.local.specs.Local.{IsPage, levelAt};
 ghost use Rattle.quick.specs.Good.{QuickGood, Asks};
 ghost use Rattle.notes.specs.Linked.{EntryRoom};
+ghost use Rattle.quick.specs.Routers.{entriesAt};
 ghost use Rattle.quick.specs.Under.{wayOf};
 ghost use Rattle.quick.specs.Within.{QuickRight};
 
@@ -74,17 +76,30 @@ pub(crate) fn under(
             left: 0,
         };
     }
-    let p = store::part(s, l, n);
-    let f = page::head_of(p, l);
-    let count = f.count;
     if up == 0 {
-        let fine = crate::part::high_over(p, count, h, a, b);
+        let p = store::part(s, l, n);
+        let f = page::head_of(p, l);
+        let fine = crate::part::high_over(p, f.count, h, a, b);
         return Within {
             fine: fine,
             left: left - 1,
         };
     }
-    let mut rest = left - 1;
+    ways_fine(s, l, up - 1, h, a, b, n, left - 1)
+}
+
+// The same of the routers of page n, which lead to pages `up` levels above the leaves: each one's key and the keys under its page, where it
+// is the last one alive.
+fn ways_fine(s: &[u8], l: Limits, up: usize, h: u32, a: u32, b: u32, n: usize, left: u32) -> Within
+    requires { ⌜ Edition l × QuickGood (l .least) (now s) × IsPage (l .least) (now s) n × (levelAt (l .least) (now s) n ≡ up + 2)
+        × (readHeader (l .least) (now s) .oldest ≤ a) ⌝ }
+    ensures { λ r. ⌜ QuickRight left
+        (lasts (under up (decode (l .least) (now (s .entry)) .pages) h) h a b (entriesAt (l .least) (now (s .entry)) n)) r ⌝ }
+{
+    let p = store::part(s, l, n);
+    let f = page::head_of(p, l);
+    let count = f.count;
+    let mut rest = left;
     let mut i = 0;
     while i < count {
         let w = way_at(p, count, i, h, a, b);
@@ -95,7 +110,7 @@ pub(crate) fn under(
             };
         }
         let m = model::wide(w.page);
-        let r = under(s, l, up - 1, h, w.from, w.upto, m, rest);
+        let r = under(s, l, up, h, w.from, w.upto, m, rest);
         if !r.fine {
             return r;
         }

@@ -11,7 +11,7 @@ use Rattle.model.specs.Walk.{seen}
 use Rattle.model.specs.Sound.{same, reachedWell}
 use Rattle.model.specs.Layout.{readEntry, decode}
 use Rattle.model.specs.Inner.{Out}
-use Rattle.model.proofs.sound.ByRule.{numbers}
+use Rattle.model.specs.ByRule.{numbers}
 use Rattle.page.specs.Head.{readHead}
 use Rattle.reach.specs.Pending.{passes}
 

@@ -54,9 +54,11 @@ liveCount v es = length (those (liveAt v) es)
 
 -- throughout the stretch at least m entries are alive: so it is at its first version, and wherever one of them ends
 abbrev pub manyOver : ℕ → ℕ → ℕ → List Entry → Bool
-manyOver m a b es = leb m (liveCount a es) && all (λ (e : Entry). not (ltb a (e .end) && ltb (e .end) b) || leb m (liveCount (e .end) es)) es
+manyOver m a b es =
+    leb m (liveCount a es) && all (λ (e : Entry). not (ltb a (e .end) && ltb (e .end) b) || leb m (liveCount (e .end) es)) es
 
--- A page to which a slot or a router leads throughout the stretch, with that low key. "The first router's low key equals its page's low key."
+-- A page to which a slot or a router leads throughout the stretch, with that low key. "The first router's low key equals its page's low
+-- key."
 abbrev pub fineOver : ℕ → ℕ → ℕ → ℕ → Page → Bool
 fineOver m low a b p =
     lowOver low a b (p .entries) && (eqb (p .level) 1 || keyOver low a b (p .entries)) && manyOver m a b (p .entries)
@@ -87,7 +89,8 @@ abbrev pub nexts : (ℕ → ℕ → ℕ → Bool) → ℕ → ℕ → List Entry
 nexts f a b [] = true
 nexts f a b (e ∷ es) = nextFine f a b e && nexts f (past a e) b es
 
--- "A key lies from its page's low key up to, not including, the next one's": each router to a page `up` levels above the leaves, and those behind it
+-- "A key lies from its page's low key up to, not including, the next one's": each router to a page `up` levels above the leaves, and those
+-- behind it
 abbrev pub routersFine : ℕ → ℕ → ℕ → List Page → List Entry → Bool
 routersFine least old up ps [] = true
 routersFine least old up ps (e ∷ es) =
@@ -143,7 +146,8 @@ spansMet s n (p ∷ ps) = (isFree p || eqb (ledTo s n) (p .end - max (s .oldest)
 unfoldable pub quick : ℕ → Store → Bool
 quick least s =
     spansMet s 5 (drop 5 (s .pages)) && slotsFine least (s .oldest) (s .pages) (s .slots)
-    && pagesPass (λ (p : Page). inOrder apart (kept (s .oldest) (p .entries)) && childrenFine least (s .oldest) (s .pages) (p .level) (kept (s .oldest) (p .entries))) s
+    && pagesPass (λ (p : Page). inOrder apart (kept (s .oldest) (p .entries))
+    && childrenFine least (s .oldest) (s .pages) (p .level) (kept (s .oldest) (p .entries))) s
 
 -- `sound`, found quickly
 unfoldable pub quickSound : ℕ → Store → Bool
@@ -151,4 +155,5 @@ quickSound least s = rule1 least s && rule2 s && rule3 s && quick least s && rul
 
 -- and of lent bytes
 unfoldable pub quickIn : ℕ → List ℕ → Bool
-quickIn least b = clean least b && rule2 (decode least b) && rule3 (decode least b) && quick least (decode least b) && rule7 (decode least b)
+quickIn least b =
+    clean least b && rule2 (decode least b) && rule3 (decode least b) && quick least (decode least b) && rule7 (decode least b)

@@ -10,7 +10,7 @@ use Rattle.model.specs.Store.{Store, page, next}
 use Rattle.model.specs.Layout.{decode}
 use Rattle.model.specs.Rules.{upward}
 use Rattle.model.specs.Climb.{workRoot, climb, Result, done, rooted}
-use Rattle.model.proofs.sound.ByRule.{Sound}
+use Rattle.model.specs.ByRule.{Sound}
 use Rattle.edit.specs.declared.Change as code
 use Rattle.edit.specs.Change.{changeOf}
 use Rattle.gather.specs.Kept.{Fits}

@@ -3,7 +3,7 @@ use Prim.Native.Nat.{ℕ}
 use mathlib.Core.Path.{_≡_}
 use Rattle.model.specs.Store.{Store}
 use Rattle.model.specs.Climb.{Result, done}
-use Rattle.model.proofs.sound.ByRule.{Sound}
+use Rattle.model.specs.ByRule.{Sound}
 
 -- a change that leaves the store sound
 abbrev pub LeavesSound : ℕ → Result → Type 0

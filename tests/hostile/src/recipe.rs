@@ -379,7 +379,7 @@ pub const ROWS: [Row; 19] = [
     ),
 ];
 
-/// Stores of edition 2, at some 256 pages and at as many as there may be.
+/// Stores of edition 2, at some 256 pages and at as many as there may be; and the most busy one found of 2,048 pages, 1 MB.
 pub fn second() -> Vec<(&'static str, Vec<u8>)> {
     let storm = |groups| Storm {
         groups,
@@ -410,6 +410,10 @@ pub fn second() -> Vec<(&'static str, Vec<u8>)> {
         ("crowd", crowd_of(&SECOND, crowding(70, 2))),
         ("crowd", crowd_of(&SECOND, crowding(2000, 20))),
         ("turns", turns(sketch(), turning(2, 20, 3, 12, 20), false)),
+        (
+            "turns in 1 MB",
+            turns(sketch(), turning(3, 190, 4, 40, 40), false),
+        ),
         ("turns", turns(sketch(), turning(6, 200, 4, 40, 40), false)),
     ];
     let made = stores.into_iter();

@@ -17,8 +17,8 @@ use Rattle.model.specs.Walk.{find, keyLimit}
 use Rattle.model.specs.Calls.{isSome}
 use Rattle.model.specs.Differ.{added, removed}
 use Rattle.model.specs.Inner.{rising}
+use Rattle.model.specs.Tree.{inRange}
 use Rattle.model.proofs.lists.Lists.{both-true, both-intro}
-use Rattle.model.proofs.tree.Local.{inRange}
 use Rattle.model.proofs.lists.Merging.{above, above-lower, find-above}
 use Rattle.cursor.specs.First.{atOrAbove, leads}
 use Rattle.cursor.proofs.laws.First.{above-in, leads-none}

@@ -16,7 +16,8 @@ use Rattle.model.specs.Climb.{Result, done, refused}
 use Rattle.model.specs.Lent.{left}
 use Rattle.model.specs.Differ.{differ}
 use Rattle.model.specs.Return.{reached, orStopped, through}
-use Rattle.model.proofs.sound.ByRule.{Sound, old-current}
+use Rattle.model.specs.ByRule.{Sound}
+use Rattle.model.proofs.sound.ByRule.{old-current}
 use Rattle.store.proofs.laws.Sure.{sure}
 use Rattle.written.proofs.laws.Encoded.{encoded-accepted, encoded-held}
 use Rattle.walk.specs.Sure.{Walkable}

@@ -19,8 +19,9 @@ use Rattle.model.specs.Climb.{Result, done, refused, update}
 use Rattle.model.specs.Calls.{isSome, rawInsert, delete}
 use Rattle.model.specs.Needs.{deleting}
 use Rattle.model.specs.Return.{setOne}
+use Rattle.model.specs.ByRule.{Sound}
 use Rattle.model.proofs.lists.Members.{true-holds}
-use Rattle.model.proofs.sound.ByRule.{Sound, to-tests, old-current}
+use Rattle.model.proofs.sound.ByRule.{to-tests, old-current}
 use Rattle.model.proofs.reading.Lookups.{lookup-is}
 use Rattle.model.proofs.tree.Local.{applied}
 use Rattle.model.proofs.tree.UpdateChanges.{Changed}

@@ -9,18 +9,16 @@ use lib.Pow.{pow-pos, pow-add, shr-shr, shr-lt}
 use lib.Arith.{digits-div, digits-lt}
 use native.Mathlib.Nat.{mod-lt, two-pow-succ, mul-assoc, mul-add-div-right, div-add-mod'}
 use native.Mathlib.Numerals.{add-one}
-use native.Mathlib.Decide.{decLt, ℕ-discrete}
+use native.Mathlib.Decide.{decLt}
 use native.Mathlib.Omega.{arith}
 use Rattle.model.specs.Field.{field, bitAt, bitOf, putBit, setBit, putField, Bytes}
+use Rattle.model.proofs.lists.Bools.{same?}
 use Rattle.bits.proofs.laws.Laws.{field-ext, field-byte}
 
 -- ---- tests on numbers, as sums
 
 pub less : (m n : ℕ) → (m < n) ⊎ (n ≤ m)
 less m n = elim (decLt m n) [ yes h ↦ inl h | no h ↦ inr (omega arith) ]
-
-pub same? : (m n : ℕ) → (m ≡ n) ⊎ (m ≢ n)
-same? m n = elim (ℕ-discrete m n) [ yes h ↦ inl h | no h ↦ inr h ]
 
 -- ---- one bit of a byte
 

@@ -6,9 +6,10 @@ use borrow.Author.Needs.{needs}
 use Rattle.store.proofs.laws.Sure.{few, front}
 use Rattle.changes.specs.Turning.{closing}
 use Rattle.changes.proofs.laws.Turning.{gives-seven, gives-close}
-use Rattle.reads.proofs.laws.Guard.{judged-number, zero-sound}
+use Rattle.reads.proofs.laws.Guard.{judged-number}
 use Rattle.changes.proofs.guard_closing.Statement.{statement}
 use Rattle.changes.proofs.guard_closing.Tie as tie
+use Rattle.model.proofs.sound.Judging.{zero-sound}
 
 judge-requires : tie.Need-judge-requires
 judge-requires c κs = search needs

@@ -5,9 +5,10 @@ use borrow.Author.Needs.{needs}
 use Rattle.store.proofs.laws.Sure.{few, front}
 use Rattle.changes.specs.Turning.{opening}
 use Rattle.changes.proofs.laws.Turning.{gives-eight, gives-nine, gives-open}
-use Rattle.reads.proofs.laws.Guard.{judged-number, zero-sound}
+use Rattle.reads.proofs.laws.Guard.{judged-number}
 use Rattle.changes.proofs.guard_opening.Statement.{statement}
 use Rattle.changes.proofs.guard_opening.Tie as tie
+use Rattle.model.proofs.sound.Judging.{zero-sound}
 
 judge-requires : tie.Need-judge-requires
 judge-requires c κs = search needs

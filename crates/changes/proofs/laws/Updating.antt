@@ -19,14 +19,15 @@ use Rattle.model.specs.Calls.{isSome, rule, firstOf, rawInsert, insert, delete,
 use Rattle.model.specs.Needs.{deleting}
 use Rattle.model.specs.Lent.{leaving, left, insertLent, deleteLent}
 use Rattle.model.proofs.sound.ByRule.{old-last}
+use Rattle.model.proofs.sound.Judging.{zero-sound}
 use Rattle.walk.specs.Down.{Leaf}
 use Rattle.walk.specs.Sure.{Walkable}
 use Rattle.store.proofs.laws.Sure.{sure}
 use Rattle.update.specs.Single.{Enters, Ends}
 use Rattle.reads.specs.Guard.{guarded}
-use Rattle.reads.proofs.laws.Guard.{zero-sound, chain-number, lent-guard, guard-chain, guard-sound}
+use Rattle.reads.proofs.laws.Guard.{chain-number, lent-guard, guard-chain, guard-sound}
 use Rattle.changes.proofs.laws.Turning.{Goes, refused-so, done-so, flag, version}
-use Rattle.changes.specs.Updating.{speaks, limitOf, updating, against, At}
+use Rattle.changes.specs.Updating.{speaks, limitOf, updating, against, AtLeaf}
 
 pub limit-low : (b : Bool) → limitOf b ≤ keyLimit
 limit-low true = omega arith
@@ -115,7 +116,7 @@ open-readable {l} d b j h e f =
 
 -- what it finds
 pub open-at : {l : Limits} (b : List ℕ) (j : judged (l .least) b .number ≡ 0) (h : Header) → h ≡ readHeader (l .least) b → (k w n : ℕ)
-    → w ≡ h .current + 1 → Leaf l b w k n → At l b k w n
+    → w ≡ h .current + 1 → Leaf l b w k n → AtLeaf l b k w n
 open-at {l} b j h e k w n f g =
     let q : h .current + 1 ≡ next (decode (l .least) b) = omega (arith, version (l .least) b j h e) in
     record { version = f ∙ q; leaf = g }

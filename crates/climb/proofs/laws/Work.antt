@@ -14,8 +14,9 @@ use Rattle.model.specs.Store.{page}
 use Rattle.model.specs.Walk as walk
 use Rattle.model.specs.Rules as rules
 use Rattle.model.specs.Needs.{fills, takesInPlace, groupAt}
+use Rattle.model.specs.Inner.{In}
 use Rattle.gather.specs.Gather.{pairsIn}
-use Rattle.model.proofs.lists.Members.{In, in-left}
+use Rattle.model.proofs.lists.Members.{in-left}
 use Rattle.parts.specs.Kept.{ExactBytes, pagesOf}
 use Rattle.group.specs.declared.Routers.{Routers}
 use Rattle.group.specs.declared.Group.{Group}

@@ -17,10 +17,9 @@ use Rattle.model.specs.Calls.{rawInsert}
 use Rattle.model.specs.Needs.{deleting}
 use Rattle.model.specs.Lent.{left}
 use Rattle.model.specs.Return.{goes, comes, endOne, setOne, reached, through}
+use Rattle.model.specs.Remade.{small, Ends as EndsBy, Sets as SetsBy, ended}
 use Rattle.model.proofs.lists.Lists.{both-true}
 use Rattle.model.proofs.tree.Local.{those-append}
-use Rattle.model.proofs.sound.Small.{small}
-use Rattle.model.proofs.turning.Remade.{Ends as EndsBy, Sets as SetsBy, ended}
 use Rattle.model.proofs.turning.Returned.{Runs, Steps as StepsOf, delete-is, set-is, end-step, set-step, ends-run, sets-run}
 use Rattle.update.specs.Single.{Enters, Ends}
 use Rattle.differ.specs.Merge.{told}

@@ -2,7 +2,7 @@
 -- Assumes nothing.
 use Prim.Native.Nat.{ℕ, zero, suc, _<_, _≤_}
 use native.Mathlib.Omega.{arith}
-use mathlib.Core.Bool.{Bool, true, false, _||_, not}
+use mathlib.Core.Bool.{Bool, true, false, not, or-true}
 use mathlib.Core.Logic.{_≢_}
 use mathlib.Core.Path.{_≡_, refl, ap, _∙_}
 use mathlib.Core.List.{List}
@@ -19,10 +19,6 @@ use Rattle.bits.proofs.laws.Laws.{field-byte}
 edition-byte : (b : List ℕ) → getD b 4 0 < 256 → editionOk 4 b ≡ eqb (getD b 4 0) 1
 unfolding editionOk
 edition-byte b h = ap (λ (n : ℕ). eqb n 1) (field-byte b 4 h)
-
-either-way : (x : Bool) → (x || true) ≡ true
-either-way true = refl
-either-way false = refl
 
 module _ (b t : List ℕ) where
   pub few-bytes : length b < 5 → 1 ≡ firstOf (convertTests b t)
@@ -41,7 +37,7 @@ module _ (b t : List ℕ) where
         of-first = edition-byte b low ∙ eq-eqb (getD b 4 0) 1 e
 
         pub target-wrong : lengthOk 8 t ≡ false → 1 ≡ firstOf (convertTests b t)
-        target-wrong w = rw (le-ltb (length b) 5 h, m, of-first, w, either-way (not (lengthOk 4 b)))
+        target-wrong w = rw (le-ltb (length b) 5 h, m, of-first, w, or-true (not (lengthOk 4 b)))
 
         module _ (w : lengthOk 8 t ≡ true) where
           pub judged-wrong : (n : ℕ) → n ≡ judged 4 b .number → (n ≡ 0 → ⊥) → n ≡ firstOf (convertTests b t)
@@ -74,7 +70,3 @@ module _ (b t : List ℕ) where
 
             pub is-shut : decode 4 b .opened ≡ false → 0 ≡ firstOf (convertTests b t)
             is-shut o = rw (le-ltb (length b) 5 h, m, of-first, right, w, sound, o)
-
-pub judged-sound : (least : ℕ) (b : List ℕ) → judged least b .number ≡ 0 → isSound least b ≡ true
-unfolding isSound
-judged-sound least b j = eq-eqb (judged least b .number) 0 j

@@ -13,9 +13,10 @@ use Rattle.model.specs.Store.{Store}
 use Rattle.model.specs.Walk.{settings, keyLimit}
 use Rattle.model.specs.Layout.{decode}
 use Rattle.model.specs.Return.{reached, stopped, through, andOn, carried}
+use Rattle.model.specs.Remade.{small, Ends, Sets}
 use Rattle.model.proofs.tree.Local.{those-append}
-use Rattle.model.proofs.sound.Small.{small, settings-small}
-use Rattle.model.proofs.turning.Remade.{Ends, Sets, Way, the-way}
+use Rattle.model.proofs.sound.Small.{settings-small}
+use Rattle.model.proofs.turning.Remade.{Way, the-way}
 use Rattle.store.proofs.laws.Sure.{sure}
 use Rattle.walk.specs.Sure.{Walkable}
 use Rattle.differ.specs.Merge.{told, Onward}

@@ -16,7 +16,7 @@ use Rattle.model.specs.Judged.{judged, isSound}
 use Rattle.model.specs.Climb.{Result, done, refused}
 use Rattle.model.specs.Lent.{left}
 use Rattle.model.specs.Return.{reached, stopped, orStopped, through}
-use Rattle.model.proofs.sound.ByRule.{Sound}
+use Rattle.model.specs.ByRule.{Sound}
 use Rattle.model.proofs.kept.Stops.{lacking-is}
 use Rattle.model.proofs.turning.Returned.{Steps}
 use Rattle.store.proofs.laws.Sure.{sure}

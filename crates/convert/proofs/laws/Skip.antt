@@ -23,14 +23,15 @@ use Rattle.model.specs.Differ.{differ}
 use Rattle.model.specs.Return.{reached, andOn, through, carried}
 use Rattle.model.specs.Convert.{replayed, replay}
 use Rattle.model.proofs.lists.Members.{bool-cases}
-use Rattle.model.proofs.sound.ByRule.{Sound}
 use Rattle.model.proofs.reading.Lookups.{settings-rise}
 use Rattle.model.proofs.reading.Differs.{none-differs}
 use Rattle.model.proofs.reading.Alike.{alike-settings}
 use Rattle.model.specs.Inner.{Out}
-use Rattle.model.proofs.sound.Quiet.{root-still}
+use Rattle.model.specs.ByRule.{Sound}
+use Rattle.model.specs.Remade.{Upto}
+use Rattle.model.proofs.sound.Quiet.{root-still, out-less}
 use Rattle.model.proofs.turning.Returned.{Runs}
-use Rattle.model.proofs.turning.Converted.{begun, current-last, Upto, runs, one-more, replayed-is}
+use Rattle.model.proofs.turning.Converted.{begun, current-last, runs, one-more, replayed-is}
 use Rattle.page.specs.Head.{readHead}
 use Rattle.page.proofs.laws.Read.{entries-of, length-entries}
 use Rattle.store.specs.Header.{putHeader}
@@ -195,10 +196,6 @@ module _ {k : Limits} {a : List ℕ} {l : Limits} {b : List ℕ} {v : ℕ} (p : 
       ∙ ap (replay (l .least) s w (s .current - w)) (sym held)
 
 -- ---- a shorter stretch, and one more page
-
-out-less : (v r q x : ℕ) → Out v r x → q ≤ r → Out v q x
-out-less v r q x (inl o) h = inl o
-out-less v r q x (inr o) h = inr (omega (arith, o, h))
 
 pub slots-less : (f : ℕ → ℕ) (c v r q : ℕ) → ((i : ℕ) → i < c → Out v r (f i)) → q ≤ r → (i : ℕ) → i < c → Out v q (f i)
 slots-less f c v r q h le i l = out-less v r q (f i) (h i l) le

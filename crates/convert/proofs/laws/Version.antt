@@ -13,9 +13,10 @@ use Rattle.model.specs.Calls.{committed}
 use Rattle.model.specs.Differ.{differ}
 use Rattle.model.specs.Return.{reached, stopped, andOn, carried}
 use Rattle.model.specs.Convert.{replayed, replay}
-use Rattle.model.proofs.sound.ByRule.{Sound}
+use Rattle.model.specs.ByRule.{Sound}
+use Rattle.model.specs.Remade.{Upto}
 use Rattle.model.proofs.turning.Returned.{Stepped, Runs}
-use Rattle.model.proofs.turning.Converted.{begun, current-last, Upto, Replays, begun-sound, begun-shows, runs, one-more, replayed-is}
+use Rattle.model.proofs.turning.Converted.{begun, current-last, Replays, begun-sound, begun-shows, runs, one-more, replayed-is}
 use Rattle.model.proofs.turning.Converted.{replayed-so}
 use Rattle.store.proofs.laws.Sure.{sure, front, few}
 use Rattle.walk.specs.Sure.{Walkable}

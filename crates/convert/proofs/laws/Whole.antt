@@ -17,8 +17,9 @@ use Rattle.model.specs.Lent.{Outcome, judgedFirst, freshLent, leaving}
 use Rattle.model.specs.Calls.{firstOf}
 use Rattle.model.specs.Return.{lacking}
 use Rattle.model.specs.Convert.{replay, converted, convertTests, convertLent}
-use Rattle.model.proofs.sound.ByRule.{Sound}
-use Rattle.model.proofs.turning.Converted.{Upto, Replays, fresh-upto, replay-so}
+use Rattle.model.specs.ByRule.{Sound}
+use Rattle.model.specs.Remade.{Upto}
+use Rattle.model.proofs.turning.Converted.{Replays, fresh-upto, replay-so}
 use Rattle.page.proofs.laws.Editions.{edition-of}
 use Rattle.store.proofs.laws.Sure.{sure, same-bytes}
 use Rattle.store.specs.Tested.{Whole}

@@ -1,7 +1,7 @@
 -- Laws about cursor/specs/First. Assumes nothing.
 use Prim.Native.Nat.{ℕ, _≤_, _<_}
 use native.Mathlib.Omega.{arith}
-use mathlib.Core.Bool.{Bool, true, false, _&&_}
+use mathlib.Core.Bool.{Bool, true, false, _&&_, and-true}
 use mathlib.Core.Path.{_≡_, refl, ap, ap₂, _∙_}
 use mathlib.Core.List.{List, [], _∷_, _++_}
 use lib.Dec.{leb, ltb}
@@ -10,8 +10,9 @@ use Rattle.model.specs.Basic.{keep}
 use Rattle.model.specs.declared.Pair.{Pair}
 use Rattle.model.specs.Entry.{within}
 use Rattle.model.specs.Walk.{between, keyLimit}
+use Rattle.model.specs.Tree.{inRange}
 use Rattle.model.proofs.lists.Lists.{both-true, both-intro, all-cons}
-use Rattle.model.proofs.tree.Local.{inRange, those-append}
+use Rattle.model.proofs.tree.Local.{those-append}
 use Rattle.cursor.specs.First.{atOrAbove, leads}
 
 -- ---- laws
@@ -53,12 +54,8 @@ between-above k lo hi (x ∷ xs) i h =
     let (here, rest) = all-cons (λ (y : Pair). within lo hi (y .key)) x xs i in
     let (p, q) = both-true (leb lo (x .key)) (ltb (x .key) hi) here in
     let e : leb (x .key) 16777215 ≡ true = le-leb (x .key) 16777215 (omega (arith, ltb-true (x .key) hi q)) in
-    ap₂ (λ (b : Bool) (zs : List Pair). keep b x zs) (ap (λ (b : Bool). leb k (x .key) && b) e ∙ right (leb k (x .key)))
+    ap₂ (λ (b : Bool) (zs : List Pair). keep b x zs) (ap (λ (b : Bool). leb k (x .key) && b) e ∙ and-true (leb k (x .key)))
     (between-above k lo hi xs rest h)
-  where
-    right : (b : Bool) → (b && true) ≡ b
-    right true = refl
-    right false = refl
 
 -- the first of two lists one after the other
 pub leads-first : (xs ys : List Pair) → leads xs .key < keyLimit → leads (xs ++ ys) ≡ leads xs

@@ -11,11 +11,12 @@ use Rattle.model.specs.Entry.{pair, within}
 use Rattle.model.specs.Page.{Page, pairsAt}
 use Rattle.model.specs.Store.{Store, page}
 use Rattle.model.specs.Walk.{followFrom, followed, rootAt, heightOf, settings, keyLimit}
+use Rattle.model.specs.Tree.{Row, inRange}
+use Rattle.model.specs.ByRule.{Readable, Sound}
 use Rattle.model.proofs.lists.Lists.{both-true, all-cons}
-use Rattle.model.proofs.tree.Tree.{Row, Tree, widen, row-le, row-keys}
-use Rattle.model.proofs.tree.Local.{inRange, all-append}
+use Rattle.model.proofs.tree.Tree.{Tree, widen, row-le, row-keys}
+use Rattle.model.proofs.tree.Local.{all-append}
 use Rattle.model.proofs.tree.UpdateChanges.{holds-range, row-range}
-use Rattle.model.proofs.sound.ByRule.{Readable, Sound}
 use Rattle.model.proofs.sound.Ready.{holds-all, root-level}
 use Rattle.walk.specs.Ends.{upto}
 use Rattle.walk.specs.Covers.{Covers}

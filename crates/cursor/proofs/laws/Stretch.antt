@@ -16,9 +16,11 @@ use Rattle.model.specs.Page.{Page, pairsAt}
 use Rattle.model.specs.Store.{page}
 use Rattle.model.specs.Walk.{between}
 use Rattle.model.specs.Inner.{rising}
+use Rattle.model.specs.Tree.{inRange}
 use Rattle.model.proofs.lists.Lists.{both-true, all-cons}
-use Rattle.model.proofs.tree.Local.{inRange, those-append}
+use Rattle.model.proofs.tree.Local.{those-append}
 use Rattle.model.proofs.lists.Merging.{above, above-lower}
+use Rattle.model.proofs.lists.Bools.{fails-right}
 use Rattle.walk.proofs.laws.Ends.{between-above}
 use Rattle.cursor.specs.First.{atOrAbove}
 use Rattle.cursor.specs.Reaches.{Reaches}
@@ -32,13 +34,9 @@ between-none k hi a b (x ∷ xs) i o =
     ap₂ (λ (t : Bool) (zs : List Pair). keep t x zs) (at (leb-true a (x .key) p) (ltb-true (x .key) b q) o)
     (between-none k hi a b xs rest o)
   where
-    both : (s t : Bool) → t ≡ false → (s && t) ≡ false
-    both true t e = e
-    both false t e = refl
-
     at : a ≤ x .key → x .key < b → (b ≤ k) ⊎ (hi < a) → (leb k (x .key) && leb (x .key) hi) ≡ false
     at p q (inl h) = ap (λ (t : Bool). t && leb (x .key) hi) (lt-leb k (x .key) (omega arith))
-    at p q (inr h) = both (leb k (x .key)) (leb (x .key) hi) (lt-leb (x .key) hi (omega arith))
+    at p q (inr h) = fails-right (leb k (x .key)) (leb (x .key) hi) (lt-leb (x .key) hi (omega arith))
 
 pub all-above : (k j : ℕ) (xs : List Pair) → above j xs ≡ true → k ≤ j + 1 → atOrAbove k xs ≡ xs
 all-above k j [] a h = refl

@@ -16,8 +16,9 @@ use Rattle.model.specs.Entry.{within}
 use Rattle.model.specs.Walk.{between}
 use Rattle.model.specs.Differ.{added, removed, against, differ}
 use Rattle.model.specs.Inner.{rising}
+use Rattle.model.specs.Tree.{inRange}
 use Rattle.model.proofs.lists.Lists.{both-true, both-intro, all-cons}
-use Rattle.model.proofs.tree.Local.{inRange, all-append}
+use Rattle.model.proofs.tree.Local.{all-append}
 use Rattle.model.proofs.lists.Merging.{above, above-lower, old-first, new-first, both-first, by-merge}
 use Rattle.model.proofs.reading.Differs.{keys-so, before, in-order}
 use Rattle.cursor.specs.First.{atOrAbove}

@@ -12,12 +12,12 @@ use Rattle.model.specs.declared.Limits.{Limits}
 use Rattle.model.specs.Walk.{settings, keyLimit}
 use Rattle.model.specs.Layout.{decode}
 use Rattle.model.proofs.reading.Lookups.{settings-rise, settings-low}
-use Rattle.model.proofs.tree.Local.{inRange}
 use Rattle.store.proofs.laws.Sure.{sure}
 use Rattle.walk.specs.Sure.{Walkable}
 use Rattle.cursor.specs.First.{atOrAbove, leads}
 use Rattle.model.specs.declared.Delta.{Delta}
 use Rattle.model.specs.Inner.{rising}
+use Rattle.model.specs.Tree.{inRange}
 use Rattle.differ.proofs.laws.Append.{few-differ}
 use Rattle.differ.specs.Merge.{compared, told, Onward}
 use Rattle.differ.proofs.laws.Merge.{left-start, left-end, left-on, left-step}

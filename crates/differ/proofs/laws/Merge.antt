@@ -13,8 +13,8 @@ use Rattle.model.specs.declared.Delta.{Delta}
 use Rattle.model.specs.Walk.{keyLimit}
 use Rattle.model.specs.Differ.{added, removed, changed, differ}
 use Rattle.model.specs.Inner.{rising}
+use Rattle.model.specs.Tree.{inRange}
 use Rattle.model.proofs.lists.Lists.{both-true, both-intro, all-cons}
-use Rattle.model.proofs.tree.Local.{inRange}
 use Rattle.model.proofs.tree.Edit.{rising-those}
 use Rattle.model.proofs.lists.Merging.{above, above-lower, old-first, new-first, both-first}
 use Rattle.cursor.specs.First.{atOrAbove, leads}

@@ -12,6 +12,7 @@ use Rattle.model.specs.declared.Pair.{Pair}
 use Rattle.model.specs.Basic.{has}
 use Rattle.model.specs.Entry.{born, liveAt, endThose}
 use Rattle.model.specs.Page.{Page, bornAll, changed}
+use Rattle.model.proofs.lists.Lists.{length-enter}
 use Rattle.edit.specs.declared.Change.{Change}
 use Rattle.edit.specs.declared.sift.Rule.the-variants.{End}
 use Rattle.edit.specs.Fate.{endOf}
@@ -20,7 +21,7 @@ use Rattle.edit.specs.Same.{firstOf}
 use Rattle.edit.proofs.laws.Same.{ends, none-end}
 use Rattle.edit.specs.Place.{entered}
 use Rattle.page.specs.Exact.{Valid}
-use Rattle.edit.proofs.laws.Valid.{length-enter, valid-entered, valid-sifted}
+use Rattle.edit.proofs.laws.Valid.{valid-entered, valid-sifted}
 use Rattle.edit.specs.Change.{one, enteredIf, firstPairs, changeOf, first}
 
 unfoldable pub second : ℕ → Change → Page → Page

@@ -1,6 +1,5 @@
 -- What a rule or an entering pair leaves of a page can be held. Assumes nothing.
 use Prim.Native.Nat.{ℕ, zero, suc, _*_, _^_, _<_}
-use mathlib.Core.Path.{_≡_, refl, ap}
 use mathlib.Core.Bool.{Bool, true, false}
 use mathlib.Core.List.{List, [], _∷_, _++_}
 use lib.ListN.{length, getD}
@@ -11,6 +10,7 @@ use Rattle.model.specs.Basic.{keep}
 use Rattle.model.specs.Entry.{before, born, placed, enter}
 use Rattle.model.specs.Page.{Page}
 use Rattle.model.specs.Layout.{unused}
+use Rattle.model.proofs.lists.Lists.{length-enter}
 use Rattle.page.specs.Read.{FieldsFit}
 use Rattle.page.proofs.laws.Read.{sized-unused}
 use Rattle.page.specs.Exact.{Valid}
@@ -36,11 +36,6 @@ sized-placed : (b : Bool) (e x : Entry) (xs ys : List Entry) → FieldsFit e →
 sized-placed true e x xs ys z h g = sized-cons e (x ∷ xs) z h
 sized-placed false e x xs ys z h g = sized-cons x ys (h 0) g
 
-length-placed : (b : Bool) (e x : Entry) (xs ys : List Entry) → length ys ≡ suc (length xs)
-    → length (placed b e x xs ys) ≡ suc (suc (length xs))
-length-placed true e x xs ys h = refl
-length-placed false e x xs ys h = ap suc h
-
 sized-sifted : (r : Rule) (w : ℕ) (es : List Entry) → w < 2 ^ 20 → AllSized es → AllSized (sifted r w es)
 unfolding sifted
 sized-sifted r w [] hw h = λ k. sized-unused
@@ -51,10 +46,6 @@ sized-sifted r w (e ∷ es) hw h =
 sized-enter : (e : Entry) (es : List Entry) → FieldsFit e → AllSized es → AllSized (enter e es)
 sized-enter e [] z h = sized-cons e [] z h
 sized-enter e (x ∷ xs) z h = sized-placed (before e x) e x xs (enter e xs) z h (sized-enter e xs z (λ k. h (suc k)))
-
-pub length-enter : (e : Entry) (es : List Entry) → length (enter e es) ≡ suc (length es)
-length-enter e [] = refl
-length-enter e (x ∷ xs) = length-placed (before e x) e x xs (enter e xs) (length-enter e xs)
 
 pub valid-sifted : (least : ℕ) (r : Rule) (w : ℕ) (p : Page) → w < 2 ^ 20 → Valid least p → Valid least (siftedPage r w p)
 unfolding siftedPage

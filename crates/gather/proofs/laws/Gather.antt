@@ -3,14 +3,14 @@ use Prim.Native.Nat.{ℕ, zero, suc, _+_, _-_, _<_, _≤_}
 use mathlib.Core.Path.{_≡_, refl, ap, sym, _∙_}
 use mathlib.Core.Bool.{Bool, true, false}
 use mathlib.Core.List.{List, [], _∷_, _++_, append-nil}
-use mathlib.Core.Logic.{_⊎_, inl, inr, ⊎-elim, _≢_}
+use mathlib.Core.Logic.{⊎-elim, _≢_}
 use lib.ListN.{length, getD, take, drop, set, replicate, length-append, length-drop, length-set, length-replicate}
 use lib.Seq.{take-suc, take-suc-set, take-set-le, getD-set-same, getD-set-other, getD-drop, getD-take, length-take-le, take-take}
 use native.Mathlib.Numerals.{add-one}
 use native.Mathlib.Omega.{arith}
-use Rattle.bits.proofs.laws.Put.{less}
 use Rattle.model.specs.declared.Pair.{Pair}
 use Rattle.model.specs.Basic.{keep}
+use Rattle.model.proofs.lists.Bools.{same?}
 use Rattle.edit.specs.Change.{one}
 use Rattle.edit.specs.Fill.{nil, Fitting}
 use Rattle.gather.specs.declared.Gather.{Gather}
@@ -46,11 +46,6 @@ pub lists-none : Lists (record { list = replicate 56 nil; n = 0 }) []
 unfolding pairsIn
 lists-none = record { good = record { size = length-replicate 56 nil; room = omega arith; fits = nils 56 }; is = refl }
 
-equal : (m n : ℕ) → (m ≡ n) ⊎ (m ≢ n)
-equal m n =
-    ⊎-elim (λ l. inr (λ (e : m ≡ n). omega arith)) (λ g. ⊎-elim (λ l. inr (λ (e : m ≡ n). omega arith)) (λ l. inl (omega arith)) (less n m))
-    (less m n)
-
 module _ (g : Gather) (x : Pair) (z : Good g) (h : g .n < 56) (f : Fitting x) where
   hit : (k : ℕ) → k ≡ g .n → getD (set (g .list) (g .n) x) k nil ≡ x
   hit k e = ap (λ (j : ℕ). getD (set (g .list) (g .n) x) j nil) e ∙ getD-set-same (g .list) (g .n) x nil (omega (arith, z .size))
@@ -58,7 +53,7 @@ module _ (g : Gather) (x : Pair) (z : Good g) (h : g .n < 56) (f : Fitting x) wh
   pushed-fits : (k : ℕ) → Fitting (getD (set (g .list) (g .n) x) k nil)
   pushed-fits k =
       ⊎-elim (λ (e : k ≡ g .n). rw (hit k e) f) (λ (ne : k ≢ g .n). rw (getD-set-other (g .list) (g .n) k x nil ne) (z .fits k))
-      (equal k (g .n))
+      (same? k (g .n))
 
   pub lists-pushed : Lists (record { list = set (g .list) (g .n) x; n = g .n + 1 }) (pairsIn g ++ (x ∷ []))
   unfolding pairsIn

@@ -14,13 +14,12 @@ use Rattle.model.specs.Entry.{pairOf, liveAt, born, enter, enterPair, endOne, e
 use Rattle.model.specs.Page.{Page, Change, wanted, changed, bornAll, pairsAt}
 use Rattle.model.specs.Layout.{countOf, readEntry, readEntries, decodePage}
 use Rattle.page.specs.Head.{readHead}
-use Rattle.model.proofs.tree.Edit.{length-enter as length-enterPair}
 use Rattle.model.proofs.needs.Sizes.{wanted-few}
+use Rattle.model.proofs.lists.Lists.{length-enter}
 use Rattle.page.proofs.laws.Read.{count-of, entries-of, length-entries, entries-step, entries-end}
 use Rattle.edit.specs.declared.Change as code
 use Rattle.edit.specs.Same.{firstOf}
 use Rattle.edit.specs.Change.{one, firstPairs, changeOf}
-use Rattle.edit.proofs.laws.Valid.{length-enter}
 use Rattle.gather.specs.Kept.{Counted, Fits, keptPairs}
 
 -- ---- its entries, from place i on
@@ -63,9 +62,6 @@ kept-room l b w c k =
     let n : length (decodePage (l .least) b .entries) ≡ countOf (l .least) b
     = ap length (entries-of (l .least) b) ∙ length-entries b 128 (readHead (l .least) b .count) ∙ sym (count-of (l .least) b) in
     omega (arith, kept-few w c (decodePage (l .least) b), k .room, k .edition .eight)
-
-pub enter-few : (x : Pair) (xs : List Pair) → length (enterPair x xs) ≡ suc (length xs)
-enter-few x xs = length-enterPair x xs
 
 -- with no key dropped, the pairs alive
 pub kept-live : (w : ℕ) (p : Page) (c : Change) → c .drop ≡ [] → keptPairs w c (p .entries) ≡ pairsAt w p

@@ -10,10 +10,11 @@ use Rattle.model.specs.declared.Pair.{Pair}
 use Rattle.model.specs.Basic.{has, keep}
 use Rattle.model.specs.Entry.{pairOf, liveAt, enterPair}
 use Rattle.model.specs.Page.{Page, Change, wanted, changed}
+use Rattle.model.proofs.tree.Edit.{length-enterPair}
 use Rattle.edit.specs.declared.Change as code
 use Rattle.edit.specs.Change.{one, changeOf}
 use Rattle.gather.specs.Kept.{Fits, keptPairs}
-use Rattle.gather.proofs.laws.Kept.{kept-step, enter-few, wanted-none, wanted-one, wanted-two, staying-few, after-is}
+use Rattle.gather.proofs.laws.Kept.{kept-step, wanted-none, wanted-one, wanted-two, staying-few, after-is}
 
 -- one entry more
 pub kept-more : (w : ℕ) (c : Change) (e : Entry) (es : List Entry) (b : Bool) → b ≡ (liveAt w e && not (has (e .key) (c .drop)))
@@ -34,9 +35,9 @@ module _ (w : ℕ) (c : code.Change) (p : Page) where
 
       by : (n : ℕ) → c .takes ≡ n → n ≤ 2 → length (wanted w (changeOf c) p) ≡ n + length kept
       by zero e h = ap length (sym (wanted-none w c p e)) ∙ omega arith
-      by (suc zero) e h = ap length (sym (wanted-one w c p e)) ∙ enter-few (c .take1) kept ∙ omega arith
-      by (suc (suc zero)) e h = ap length (sym (wanted-two w c p e)) ∙ enter-few (c .take2) (enterPair (c .take1) kept)
-          ∙ ap suc (enter-few (c .take1) kept) ∙ omega arith
+      by (suc zero) e h = ap length (sym (wanted-one w c p e)) ∙ length-enterPair (c .take1) kept ∙ omega arith
+      by (suc (suc zero)) e h = ap length (sym (wanted-two w c p e)) ∙ length-enterPair (c .take2) (enterPair (c .take1) kept)
+          ∙ ap suc (length-enterPair (c .take1) kept) ∙ omega arith
       by (suc (suc (suc n))) e h = absurd (omega arith)
 
   -- no more entries than there are and come in

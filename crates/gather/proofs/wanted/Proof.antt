@@ -1,8 +1,9 @@
-use Rattle.gather.proofs.laws.Kept.{kept-room, enter-few, wanted-none, wanted-one, wanted-two}
+use Rattle.gather.proofs.laws.Kept.{kept-room, wanted-none, wanted-one, wanted-two}
 use Rattle.gather.specs.Gather.{pairsIn}
 use Rattle.gather.proofs.laws.Gather.{length-pairs, listed}
 use Rattle.edit.specs.Change.{changeOf}
 use Rattle.model.specs.Layout.{decodePage}
+use Rattle.model.proofs.tree.Edit.{length-enterPair}
 use mathlib.Core.Path.{_≡_, _∙_}
 use native.Mathlib.Omega.{arith}
 use Prim.Native.Nat.{ℕ, _≤_}
@@ -64,7 +65,7 @@ entered-requires-2 c κs =
         arith,
         few at-kept-pairs,
         listed (at-entered .entered .ensures),
-        enter-few (at-start .args .c .take1) (pairsIn (at-kept-pairs .kept-pairs .result)),
+        length-enterPair (at-start .args .c .take1) (pairsIn (at-kept-pairs .kept-pairs .result)),
         length-pairs (at-kept-pairs .kept-pairs .result) (at-kept-pairs .kept-pairs .ensures .good),
       ),
       at-start .pre .1 .second,

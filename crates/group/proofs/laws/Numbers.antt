@@ -15,7 +15,8 @@ use Rattle.model.specs.Page.{Page, active}
 use Rattle.model.specs.Store.{page, freeOnes}
 use Rattle.model.specs.Rules.{usable}
 use Rattle.model.specs.Needs.{actives}
-use Rattle.model.proofs.lists.Members.{In, in-append, in-those, in-getD}
+use Rattle.model.specs.Inner.{In}
+use Rattle.model.proofs.lists.Members.{in-append, in-those, in-getD}
 use Rattle.model.proofs.tree.GroupPages.{in-frees}
 use Rattle.model.proofs.needs.Sizes.{actives-few}
 use Rattle.parts.specs.Kept.{ExactBytes, Inside, pagesOf}

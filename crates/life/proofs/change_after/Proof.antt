@@ -5,7 +5,8 @@ use mathlib.Core.Path.{ap₂, sym, _∙_}
 use Rattle.model.specs.Walk.{lookup}
 use Rattle.model.specs.Layout.{decode}
 use Rattle.life.specs.Lived.{sameAs}
-use Rattle.life.proofs.laws.Lived.{same-true, same-false, reads-at, low, Lasting, lasts-on, lasts-other, lasts-end}
+use Rattle.model.proofs.reading.Lives.{Lasting, lasts-on, lasts-other, lasts-end}
+use Rattle.life.proofs.laws.Lived.{same-true, same-false, reads-at, low}
 use borrow.Author.Needs.{needs}
 use borrow.Author.Tests.{not-true, not-false}
 use Rattle.life.proofs.change_after.Statement.{statement}

@@ -1,20 +1,19 @@
 -- Laws about life/specs/Lived. Assumes nothing.
-use Prim.Native.Nat.{ℕ, suc, _^_, _≤_, _<_}
+use Prim.Native.Nat.{ℕ, _^_, _≤_}
 use native.Mathlib.Omega.{arith}
-use mathlib.Core.Bool.{Bool, true, false}
+use mathlib.Core.Bool.{true, false}
 use mathlib.Core.Option.{Option, none, some}
 use mathlib.Core.Path.{_≡_, refl, ap, ap₂, sym, _∙_}
 use mathlib.Core.Logic.{_≢_}
 use mathlib.Core.List.{List, _++_}
-use lib.Dec.{leb, ltb}
+use lib.Dec.{ltb}
 use lib.ListN.{length}
-use borrow.Author.Tests.{eqb-true, eqb-false, leb-true, leb-false}
+use borrow.Author.Tests.{eqb-true, eqb-false}
 use Rattle.model.specs.Basic.{pick}
 use Rattle.model.specs.declared.Limits.{Limits}
 use Rattle.model.specs.declared.Stretch.{Stretch}
 use Rattle.model.specs.declared.Looked.{Looked}
 use Rattle.model.specs.Entry.{alive}
-use Rattle.model.specs.Store.{lastOf}
 use Rattle.model.specs.Limits.{Edition}
 use Rattle.model.specs.Layout.{readHeader, decode}
 use Rattle.model.specs.Judged.{isSound}
@@ -22,7 +21,7 @@ use Rattle.model.specs.Calls.{lookedAt}
 use Rattle.model.specs.Life.{lifeOf}
 use Rattle.model.specs.Inner.{Lasts}
 use Rattle.model.proofs.reading.Lives.{toldOf, rest, rest-step, life-length}
-use Rattle.model.proofs.sound.ByRule.{old-current}
+use Rattle.model.proofs.sound.ByRule.{old-current, upto-last}
 use Rattle.store.proofs.laws.Read.{current-of, oldest-of}
 use Rattle.store.proofs.laws.Sure.{sure}
 use Rattle.walk.specs.Sure.{Walkable}
@@ -65,13 +64,9 @@ module _ {l : Limits} (d : Edition l) (b : List ℕ) (h : isSound (l .least) b �
           arith,
           current-of (l .least) b,
           old-current (l .least) (decode (l .least) b) (sure d b h .old-low),
-          at (decode (l .least) b .opened) (decode (l .least) b .current),
+          upto-last (decode (l .least) b .opened) (decode (l .least) b .current),
         );
       }
-    where
-      at : (o : Bool) (n : ℕ) → n ≤ lastOf o n
-      at true n = omega arith
-      at false n = omega arith
 
   -- from the oldest version up to the current one
   pub old-upto : readHeader (l .least) b .oldest ≤ readHeader (l .least) b .current
@@ -80,28 +75,6 @@ module _ {l : Limits} (d : Edition l) (b : List ℕ) (h : isSound (l .least) b �
 
   pub few-stretches : (old : ℕ) (f : ℕ → Option ℕ) → length (lifeOf old (readHeader (l .least) b .current) f) ≤ 2 ^ 40
   few-stretches old f = omega (arith, life-length (readHeader (l .least) b .current) f old, low reads-current)
-
--- ---- the first change behind a version
-
-module _ (c : ℕ) (f : ℕ → Option ℕ) (v : ℕ) where
-  -- so far: from v up to u there is none
-  pub record Lasting (u : ℕ) : Type 0 where
-    pub above : v < u
-    pub below : u ≤ suc c
-    pub same : (w : ℕ) → v ≤ w → w < u → f w ≡ f v
-
-  pub lasts-on : (u q : ℕ) → Lasting u → f u ≡ f v → u < q → q ≤ suc c → ((w : ℕ) → u ≤ w → w < q → f w ≡ f u) → Lasting q
-  lasts-on u q l e up high still = record { above = omega (arith, l .above); below = high; same = λ w a b. at w a b (leb u w) refl }
-    where
-      at : (w : ℕ) → v ≤ w → w < q → (t : Bool) → leb u w ≡ t → f w ≡ f v
-      at w a b true h = still w (leb-true u w h) b ∙ e
-      at w a b false h = l .same w a (leb-false u w h)
-
-  pub lasts-other : (u : ℕ) → Lasting u → f u ≢ f v → Lasts c f v u
-  lasts-other u l h = record { above = l .above; below = l .below; same = l .same; other = λ z. h }
-
-  pub lasts-end : (u : ℕ) → Lasting u → c < u → Lasts c f v u
-  lasts-end u l h = record { above = l .above; below = l .below; same = l .same; other = λ z. absurd (omega arith) }
 
 -- what is told of the versions from v up to r, and the rest behind it
 module _ (c : ℕ) (f : ℕ → Option ℕ) (v r e : ℕ) (answer : Looked) (l : Lasts c f v r) (a : answer ≡ lookedAt (f v))

@@ -1,4 +1,4 @@
--- Laws about life/specs/Still. Assumes nothing.
+-- Laws about model/specs/Still: of the entries of a page, of the root directory. Assumes nothing.
 use Prim.Native.Nat.{ℕ, suc, _+_, _*_, _≤_, _<_}
 use native.Mathlib.Omega.{arith}
 use mathlib.Core.Bool.{Bool, true, false}
@@ -12,16 +12,12 @@ use Rattle.model.specs.Entry.{pairOf, liveAt}
 use Rattle.model.specs.Walk.{rootAt}
 use Rattle.model.specs.Layout.{readSlot, readSlots}
 use Rattle.model.specs.Inner.{Out}
-use Rattle.model.proofs.sound.Quiet.{within-still}
+use Rattle.model.proofs.sound.Quiet.{within-still, out-less}
 use Rattle.walk.specs.Live.{live}
 use Rattle.walk.specs.Scan.{entry, from}
 use Rattle.walk.proofs.laws.Scan.{from-step, from-end}
 use Rattle.walk.proofs.laws.Down.{root-here, root-before, root-none}
-use Rattle.life.specs.Still.{Until, Sooner}
-
-pub out-less : (v r q x : ℕ) → q ≤ r → Out v r x → Out v q x
-out-less v r q x h (inl l) = inl l
-out-less v r q x h (inr l) = inr (omega arith)
+use Rattle.model.specs.Still.{Until, Sooner}
 
 -- ---- the entries of a page, the last ones first
 
@@ -54,7 +50,7 @@ module _ (p : List ℕ) (n v r : ℕ) where
     still = λ w low high.
         let e = entry p i in
         let es = from p (i + 1) n in
-        let t : liveAt v e ≡ liveAt w e = within-still v w q2 low high (e .start) (e .end) (out-less v q1 q2 (e .start) (b .below) (a .out))
+        let t : liveAt v e ≡ liveAt w e = within-still v w q2 low high (e .start) (e .end) (out-less v q1 q2 (e .start) (a .out) (b .below))
         (b .out) in
         ap (live w) (from-step p n i l) ∙ live-cons w e es
         ∙ ap₂ (λ (x : Bool) (xs : List Pair). keep x (pairOf e) xs) (sym t) (u .still w low (omega (arith, a .below, b .below)))

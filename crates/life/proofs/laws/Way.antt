@@ -12,7 +12,7 @@ use Rattle.model.specs.Walk.{around, rootAt, heightOf, find, lookup}
 use Rattle.walk.specs.Covers.{Covers}
 use Rattle.walk.proofs.laws.Covers.{covers-own}
 use Rattle.walk.proofs.laws.Down.{leafDown, way-leaf}
-use Rattle.life.specs.Still.{Until}
+use Rattle.model.specs.Still.{Until}
 
 -- the value of a key below page n
 abbrev pub foundDown : ℕ → List Page → ℕ → ℕ → ℕ → Option ℕ

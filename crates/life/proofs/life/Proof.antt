@@ -12,7 +12,7 @@ use Rattle.model.specs.Lent.{listed}
 use Rattle.model.proofs.reading.Telling.{none-room, counted, told-short, second-space, told-all}
 use Rattle.store.proofs.laws.Read.{current-of, oldest-of}
 use Rattle.store.proofs.laws.Sure.{few, front}
-use Rattle.life.specs.Lived.{stretches}
+use Rattle.model.specs.Still.{stretches}
 use Rattle.life.proofs.laws.Lived.{reads-current, old-upto, few-stretches}
 use Rattle.life.proofs.life.Statement.{statement}
 use Rattle.life.proofs.life.Tie as tie

@@ -6,7 +6,7 @@ use mathlib.Core.Path.{_≡_, ap, sym, _∙_}
 use mathlib.Core.List.{[], _∷_}
 use lib.ListN.{length-set}
 use Rattle.model.proofs.reading.Telling.{write-one, write-not}
-use Rattle.life.specs.Lived.{stretches}
+use Rattle.model.specs.Still.{stretches}
 use borrow.Author.Needs.{needs}
 use Rattle.life.proofs.put.Statement.{statement}
 use Rattle.life.proofs.put.Tie as tie

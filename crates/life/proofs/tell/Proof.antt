@@ -2,7 +2,8 @@
 use native.Mathlib.Omega.{arith}
 use mathlib.Core.Path.{refl, ap, sym, subst}
 use Rattle.model.proofs.reading.Telling.{written-none}
-use Rattle.life.specs.Lived.{stretches, shown}
+use Rattle.model.specs.Still.{stretches}
+use Rattle.life.specs.Lived.{shown}
 use borrow.Author.Needs.{needs}
 use Rattle.life.proofs.tell.Statement.{statement}
 use Rattle.life.proofs.tell.Tie as tie

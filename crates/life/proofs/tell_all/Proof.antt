@@ -8,7 +8,8 @@ use Rattle.model.specs.Layout.{decode}
 use Rattle.model.specs.Life.{lifeOf}
 use Rattle.model.proofs.reading.Lives.{rest, rest-start, rest-end}
 use Rattle.model.proofs.reading.Telling.{Gathering, space-front, gather-start, gather-same, gather-step, gather-end}
-use Rattle.life.specs.Lived.{stretches, shown}
+use Rattle.model.specs.Still.{stretches}
+use Rattle.life.specs.Lived.{shown}
 use Rattle.life.proofs.laws.Lived.{reads-at, rest-told}
 use Rattle.life.proofs.tell_all.Statement.{statement}
 use Rattle.life.proofs.tell_all.Tie as tie

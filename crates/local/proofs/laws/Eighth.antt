@@ -1,6 +1,6 @@
 -- Laws about local/specs/Eighth. Assumes nothing.
 use Prim.Native.Nat.{ℕ, zero, suc, _+_, _*_, _-_, _<_, _≤_}
-use mathlib.Core.Bool.{Bool, true, false, _&&_, _||_}
+use mathlib.Core.Bool.{Bool, true, false, _&&_, _||_, or-true}
 use mathlib.Core.Path.{_≡_, refl, ap, _∙_, subst}
 use mathlib.Core.List.{List}
 use native.Mathlib.Omega.{arith}
@@ -49,10 +49,6 @@ unfolding countsOk
 counts-end least s n m h = let e : m - n ≡ 0 = omega arith in rw e
 
 -- ---- no bits for it: nothing to be wrong
-
-or-true : (b : Bool) → (b || true) ≡ true
-or-true true = refl
-or-true false = refl
 
 none-page : (least v : ℕ) (p : List ℕ) → least ≤ 4 → countedPage least v p ≡ true
 unfolding countedPage liveOf field

@@ -1,6 +1,6 @@
 -- Laws about local/specs/First. Assumes nothing.
 use Prim.Native.Nat.{ℕ, _+_, _*_, _-_, _<_, _≤_}
-use mathlib.Core.Bool.{Bool, true, false, _&&_}
+use mathlib.Core.Bool.{Bool, true, false, _&&_, and-false, and-true}
 use mathlib.Core.Path.{_≡_, refl, _∙_}
 use mathlib.Core.List.{List}
 use native.Mathlib.Omega.{arith}
@@ -17,7 +17,6 @@ use Rattle.model.specs.Clean.{zeroFrom, cleanPages, cleanFront, clean}
 use Rattle.model.proofs.lists.Lists.{both-true}
 use Rattle.store.proofs.laws.Read.{length-slots, count-pages, behind, slots-of}
 use Rattle.local.specs.Local.{Sized, pagesFine}
-use Rattle.local.proofs.laws.Loops.{and-false, and-true}
 use Rattle.local.specs.First.{rooted}
 
 pub last-is : (least : ℕ) (s : List ℕ) → last (decode least s) ≡ lastOf (readHeader least s .opened) (readHeader least s .current)

@@ -1,6 +1,6 @@
 -- Laws about local/specs/Front. Assumes nothing.
 use Prim.Native.Nat.{ℕ, zero, suc, _+_, _*_, _-_, _<_, _≤_}
-use mathlib.Core.Bool.{Bool, true, false, _&&_, true≢false}
+use mathlib.Core.Bool.{Bool, true, false, _&&_, true≢false, and-false}
 use mathlib.Core.Path.{_≡_, refl, ap, ap₂, sym, _∙_}
 use mathlib.Core.List.{List, [], _∷_}
 use native.Mathlib.Omega.{arith}
@@ -18,7 +18,6 @@ use Rattle.model.proofs.lists.Rising.{in-order-step, sooner-carries}
 use Rattle.store.proofs.laws.Read.{slots-step, slots-end}
 use Rattle.local.specs.Local.{slotsOk}
 use Rattle.local.specs.First.{rooted}
-use Rattle.local.proofs.laws.Loops.{and-false}
 use Rattle.local.specs.Front.{slotFits, above, slotsFrom}
 
 -- it is then no later than top

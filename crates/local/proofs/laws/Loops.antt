@@ -13,21 +13,9 @@ use Rattle.model.specs.Layout.{pageOf, decodePage, readEntry, readEntries, read
 use Rattle.model.specs.Clean.{cleanPage, cleanPages}
 use Rattle.model.proofs.lists.Lists.{both-true}
 use Rattle.model.proofs.lists.Members.{all-at}
-use Rattle.bits.proofs.laws.Put.{same?}
+use Rattle.model.proofs.lists.Bools.{same?}
 use Rattle.page.proofs.laws.Read.{length-entries, entries-at, entries-step, entries-end}
 use Rattle.store.proofs.laws.Read.{length-slots, slots-at, slots-step, slots-end, length-pages, pages-at, pages-step, pages-end}
-
-pub and-false : (a : Bool) → (a && false) ≡ false
-and-false true = refl
-and-false false = refl
-
-pub and-true : (a : Bool) → (a && true) ≡ a
-and-true true = refl
-and-true false = refl
-
-pub and-assoc : (a b c : Bool) → ((a && b) && c) ≡ (a && (b && c))
-and-assoc true b c = refl
-and-assoc false b c = refl
 
 -- two tests over a list, both taken one step
 pub and-four : (a b c d : Bool) → ((a && b) && (c && d)) ≡ (c && (a && (b && d)))

@@ -1,6 +1,6 @@
 -- Laws of rule 1 for zero bits, entries and pages, in the order in which the code tests them. Assumes nothing.
 use Prim.Native.Nat.{ℕ, zero, suc, _+_, _*_, _-_, _<_, _≤_, _^_}
-use mathlib.Core.Bool.{Bool, true, false, _&&_}
+use mathlib.Core.Bool.{Bool, true, false, _&&_, and-true, and-assoc}
 use mathlib.Core.Path.{_≡_, refl, ap, sym, _∙_}
 use mathlib.Core.List.{List}
 use native.Mathlib.Omega.{arith}
@@ -27,7 +27,7 @@ use Rattle.page.specs.Head.{readHead}
 use Rattle.page.specs.Read.{FieldsFit as SizedEntry}
 use Rattle.page.proofs.laws.Read.{level-of, start-of, end-of, count-of, entries-of, length-entries, entries-step, entries-end}
 use Rattle.local.specs.Local.{entriesOk, pagesFine}
-use Rattle.local.proofs.laws.Loops.{and-true, and-assoc, and-four, all-pages-step, all-pages-end, clean-step}
+use Rattle.local.proofs.laws.Loops.{and-four, all-pages-step, all-pages-end, clean-step}
 
 -- ---- zero bits
 

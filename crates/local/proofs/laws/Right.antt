@@ -1,6 +1,6 @@
 -- Laws about local/specs/Right. Assumes nothing.
 use Prim.Native.Nat.{ℕ, _+_, _*_, _<_, _≤_}
-use mathlib.Core.Bool.{Bool, true, false, _&&_}
+use mathlib.Core.Bool.{Bool, true, false, _&&_, and-false, and-true}
 use mathlib.Core.Path.{_≡_, ap, sym, _∙_}
 use mathlib.Core.List.{List}
 use native.Mathlib.Omega.{arith}
@@ -22,7 +22,6 @@ use Rattle.page.proofs.laws.Read.{level-of}
 use Rattle.store.proofs.laws.Read.{count-pages, page-at, front-free, slots-of, oldest-of}
 use Rattle.local.specs.Local.{Sized}
 use Rattle.local.specs.First.{rooted}
-use Rattle.local.proofs.laws.Loops.{and-false, and-true}
 use Rattle.local.proofs.laws.Second.{rule2-is, two-none}
 use Rattle.local.specs.Front.{slotsFrom}
 use Rattle.local.proofs.laws.Front.{slots-all, some-slots}

@@ -7,7 +7,6 @@ use mathlib.Core.Logic.{⊎-elim}
 use native.Mathlib.Omega.{arith}
 use lib.Dec.{leb, ltb, eqb}
 use borrow.Author.Tests.{ne-eqb, leb-true, ltb-true, eqb-true}
-use Rattle.bits.proofs.laws.Put.{same?}
 use Rattle.model.specs.declared.Entry.{Entry}
 use Rattle.model.specs.declared.Slot.{Slot}
 use Rattle.model.specs.Basic.{all, inOrder, pick}
@@ -18,6 +17,7 @@ use Rattle.model.specs.Sound.{spanOk, entryOk, pageFine, isPage, rule1}
 use Rattle.model.specs.Layout.{pageOf, readEntries, decodePage, readHeader, readSlots, readPages, decode, sizeOf}
 use Rattle.model.specs.Clean.{zeroFrom, cleanPages, cleanFront, clean}
 use Rattle.model.proofs.lists.Lists.{both-true}
+use Rattle.model.proofs.lists.Bools.{same?}
 use Rattle.model.proofs.sound.ByRule.{old-last}
 use Rattle.local.specs.Local.{Sized, Ruled, IsPage, headAt, levelAt, countAt, entryAt, slotAt, entriesOk}
 use Rattle.local.proofs.laws.Loops.{page-of-all, entry-of-all, slot-of-all, clean-at}

@@ -1,6 +1,6 @@
 -- Laws about local/specs/Second. Assumes nothing.
 use Prim.Native.Nat.{ℕ, zero, suc, _+_, _*_, _-_, _<_, _≤_}
-use mathlib.Core.Bool.{Bool, true, false, _&&_}
+use mathlib.Core.Bool.{Bool, true, false, _&&_, and-assoc}
 use mathlib.Core.Path.{_≡_, refl, ap, sym, _∙_}
 use mathlib.Core.List.{List}
 use native.Mathlib.Omega.{arith}
@@ -18,7 +18,7 @@ use Rattle.model.proofs.lists.Members.{not-both}
 use Rattle.model.proofs.lists.Rising.{in-order-step, sooner-carries}
 use Rattle.store.proofs.laws.Read.{slots-step, slots-end, slots-of, oldest-of}
 use Rattle.local.specs.Local.{slotAt, slotsOk}
-use Rattle.local.proofs.laws.Loops.{and-assoc, and-four}
+use Rattle.local.proofs.laws.Loops.{and-four}
 use Rattle.local.specs.Second.{old, newer, begun}
 
 -- ---- the slots from slot i on

@@ -16,12 +16,14 @@ use Rattle.model.specs.declared.Pair.{Pair}
 use Rattle.model.specs.Entry.{pair, alive, within, liveAt, born, endThose, endedAt}
 use Rattle.model.specs.Page.{Page, Change, free, isFree, active, goneIf, gone, pairsAt, changed, wanted, killed, filled}
 use Rattle.model.specs.Store.{page}
+use Rattle.model.specs.Inner.{In}
+use Rattle.model.specs.ByRule.{livesAt}
 use Rattle.model.proofs.lists.Lists.{both-true, both-intro}
-use Rattle.model.proofs.lists.Members.{not-both, In, in-left, in-right, in-append, in-map, map-in}
+use Rattle.model.proofs.lists.Members.{not-both, in-left, in-right, in-append, in-map, map-in}
+use Rattle.model.proofs.lists.Bools.{same?}
 use Rattle.model.proofs.tree.Place.{byKey, show-changed, show-filled}
 use Rattle.model.proofs.tree.Edit.{lt}
-use Rattle.model.proofs.tree.Shows.{same?, in-list}
-use Rattle.model.proofs.sound.ByRule.{livesAt}
+use Rattle.model.proofs.tree.Shows.{in-list}
 use Rattle.model.proofs.kept.OnePage.{kindOk, PageFit, in-born, Since, stayed, ended, in-end, changed-fit, killed-fit, filled-fit}
 use Rattle.model.proofs.tree.GroupPages.{values, page-set-at, Fill, unused, member, Now, same, went, came, InNew, Redone}
 
@@ -64,7 +66,8 @@ module _ (least : ℕ) (two-or-more : 2 ≤ least) (w : ℕ) (lim : w < alive) (
     pub front : (m : ℕ) → m < 5 → isFree (page ps m) ≡ true
     pub zeros : (m : ℕ) → isFree (page ps m) ≡ true → page ps m ≡ free
     pub fit : (m : ℕ) → isFree (page ps m) ≡ false → PageFit least N w old (page ps m)
-    pub leads : (m : ℕ) (e : Entry) → isFree (page ps m) ≡ false → In e (page ps m .entries) → e .start < w → Skips (page ps m .level) e ⊎ OldLead ps (page ps m .level) e
+    pub leads : (m : ℕ) (e : Entry) → isFree (page ps m) ≡ false → In e (page ps m .entries) → e .start < w
+        → Skips (page ps m .level) e ⊎ OldLead ps (page ps m .level) e
     pub held : (m : ℕ) → Lives ps m → R m ⊎ HasRouter ps W m
 
   -- what may become of a page
@@ -76,7 +79,8 @@ module _ (least : ℕ) (two-or-more : 2 ≤ least) (w : ℕ) (lim : w < alive) (
   step-same : (p q : Page) → q ≡ p → PageStep p q
   step-same p q e = steady (ap (λ (z : Page). z .level) e) (ap (λ (z : Page). z .start) e) (ap (λ (z : Page). z .end) e)
 
-  lead-move : (ps qs : List Page) (level : ℕ) (e : Entry) → e .start < w → OldLead ps level e → PageStep (page ps (e .value)) (page qs (e .value)) → OldLead qs level e
+  lead-move : (ps qs : List Page) (level : ℕ) (e : Entry) → e .start < w → OldLead ps level e
+      → PageStep (page ps (e .value)) (page qs (e .value)) → OldLead qs level e
   lead-move ps qs level e h o (steady a b c) = record {
     used = ap (λ (k : ℕ). eqb k 0) a ∙ o .used;
     down = ap suc a ∙ o .down;
@@ -84,10 +88,17 @@ module _ (least : ℕ) (two-or-more : 2 ≤ least) (w : ℕ) (lim : w < alive) (
     ends = at (o .ends);
   }
     where
-      at : (e .end ≤ page ps (e .value) .end) ⊎ (w ≤ page ps (e .value) .end) → (e .end ≤ page qs (e .value) .end) ⊎ (w ≤ page qs (e .value) .end)
+      at : (e .end ≤ page ps (e .value) .end) ⊎ (w ≤ page ps (e .value) .end)
+          → (e .end ≤ page qs (e .value) .end) ⊎ (w ≤ page qs (e .value) .end)
       at (inl z) = inl (omega arith)
       at (inr z) = inr (omega arith)
-  lead-move ps qs level e h o (dead a b c) = record { used = ap (λ (k : ℕ). eqb k 0) a ∙ o .used; down = ap suc a ∙ o .down; starts = omega (arith, o .starts); ends = inr (omega arith) }
+  lead-move ps qs level e h o
+      (dead a b c) = record {
+        used = ap (λ (k : ℕ). eqb k 0) a ∙ o .used;
+        down = ap suc a ∙ o .down;
+        starts = omega (arith, o .starts);
+        ends = inr (omega arith);
+      }
   lead-move ps qs level e h o (lost (inl z)) = absurd (not-both (isFree (page ps (e .value))) z (o .used))
   lead-move ps qs level e h o (lost (inr z)) = absurd (omega (arith, o .starts))
 
@@ -95,7 +106,8 @@ module _ (least : ℕ) (two-or-more : 2 ≤ least) (w : ℕ) (lim : w < alive) (
   lead-ended : (ps : List Page) (level : ℕ) (e : Entry) → w < e .end → OldLead ps level e → OldLead ps level (endedAt w e)
   lead-ended ps level e h o = record { used = o .used; down = o .down; starts = o .starts; ends = at (o .ends) }
     where
-      at : (e .end ≤ page ps (e .value) .end) ⊎ (w ≤ page ps (e .value) .end) → (w ≤ page ps (e .value) .end) ⊎ (w ≤ page ps (e .value) .end)
+      at : (e .end ≤ page ps (e .value) .end) ⊎ (w ≤ page ps (e .value) .end)
+          → (w ≤ page ps (e .value) .end) ⊎ (w ≤ page ps (e .value) .end)
       at (inl z) = inr (omega arith)
       at (inr z) = inr z
 
@@ -108,7 +120,8 @@ module _ (least : ℕ) (two-or-more : 2 ≤ least) (w : ℕ) (lim : w < alive) (
       → (e : Entry) → In e (endThose g w (p .entries)) → e .start < w → Skips (p .level) e ⊎ OldLead ps (p .level) e
   lead-since ps p g y h e′ i z = at (in-end g w e′ (p .entries) i)
     where
-      ended-at : (e : Entry) → w < e .end → Skips (p .level) e ⊎ OldLead ps (p .level) e → Skips (p .level) (endedAt w e) ⊎ OldLead ps (p .level) (endedAt w e)
+      ended-at : (e : Entry) → w < e .end → Skips (p .level) e ⊎ OldLead ps (p .level) e
+          → Skips (p .level) (endedAt w e) ⊎ OldLead ps (p .level) (endedAt w e)
       ended-at e l (inl (inl o)) = inl (inl o)
       ended-at e l (inl (inr o)) = absurd (omega arith)
       ended-at e l (inr o) = inr (lead-ended ps (p .level) e l o)
@@ -117,10 +130,14 @@ module _ (least : ℕ) (two-or-more : 2 ≤ least) (w : ℕ) (lim : w < alive) (
       at (e, j, s) = from s
         where
           from : Since g w e′ e → Skips (p .level) e′ ⊎ OldLead ps (p .level) e′
-          from (stayed q k) = subst (λ (f : Entry). Skips (p .level) f ⊎ OldLead ps (p .level) f) (sym q) (h e j (subst (λ (f : Entry). f .start < w) q z))
-          from (ended q k n) = subst (λ (f : Entry). Skips (p .level) f ⊎ OldLead ps (p .level) f) (sym q) (ended-at e (y e k) (h e j (subst (λ (f : Entry). f .start < w) q z)))
+          from (stayed q k) =
+              subst (λ (f : Entry). Skips (p .level) f ⊎ OldLead ps (p .level) f) (sym q) (h e j (subst (λ (f : Entry). f .start < w) q z))
+          from (ended q k n) =
+              subst (λ (f : Entry). Skips (p .level) f ⊎ OldLead ps (p .level) f) (sym q)
+              (ended-at e (y e k) (h e j (subst (λ (f : Entry). f .start < w) q z)))
 
-  or-move : (ps qs : List Page) (level : ℕ) (e : Entry) → e .start < w → ((i : ℕ) → PageStep (page ps i) (page qs i)) → Skips level e ⊎ OldLead ps level e → Skips level e ⊎ OldLead qs level e
+  or-move : (ps qs : List Page) (level : ℕ) (e : Entry) → e .start < w → ((i : ℕ) → PageStep (page ps i) (page qs i))
+      → Skips level e ⊎ OldLead ps level e → Skips level e ⊎ OldLead qs level e
   or-move ps qs level e h f (inl z) = inl z
   or-move ps qs level e h f (inr z) = inr (lead-move ps qs level e h z (f (e .value)))
 
@@ -133,7 +150,8 @@ module _ (least : ℕ) (two-or-more : 2 ≤ least) (w : ℕ) (lim : w < alive) (
       at false e = inr (eqb-false (p .start) w e, refl)
 
   killed-dead : (p : Page) → livesAt w (killed w p) ≡ true → ⊥
-  killed-dead p h = omega (arith, ltb-true w w (both-true (leb (p .start) w) (ltb w w) (both-true (not (isFree p)) (within (p .start) w w) h .1) .1))
+  killed-dead p h =
+      omega (arith, ltb-true w w (both-true (leb (p .start) w) (ltb w w) (both-true (not (isFree p)) (within (p .start) w w) h .1) .1))
 
   free-dead : livesAt w free ≡ true → ⊥
   free-dead h = not-both false h refl
@@ -155,15 +173,19 @@ module _ (least : ℕ) (two-or-more : 2 ≤ least) (w : ℕ) (lim : w < alive) (
           dead (ap (λ (x : Page). x .level) s) (ap (λ (x : Page). x .start) s) (ap (λ (x : Page). x .end) s)
 
   filled-lives : (level : ℕ) (xs : List Pair) → livesAt w (filled w (suc level) xs) ≡ true
-  filled-lives level xs = both-intro _ _ (ap not (ne-eqb (suc level) 0 (λ (z : suc level ≡ 0). omega arith))) (both-intro _ _ (le-leb w w (omega arith)) (lt-ltb w alive lim))
+  filled-lives level xs =
+      both-intro _ _ (ap not (ne-eqb (suc level) 0 (λ (z : suc level ≡ 0). omega arith)))
+      (both-intro _ _ (le-leb w w (omega arith)) (lt-ltb w alive lim))
 
   filled-start : (level : ℕ) (xs : List Pair) (e : Entry) → In e (filled w level xs .entries) → e .start < w → ⊥
   filled-start level xs e i h = let (x, j, z) = in-map (born w) e xs i in omega (arith, ap (λ (f : Entry). f .start) z)
 
   -- a change in place
-  module _ (ps : List Page) (n l : ℕ) (c : Change) (R : ℕ → Type 0) (v : Inv ps R (Pend ps n (wanted w c (page ps n)))) (e : page ps n .level ≡ suc l)
+  module _ (ps : List Page) (n l : ℕ) (c : Change) (R : ℕ → Type 0) (v : Inv ps R (Pend ps n (wanted w c (page ps n))))
+      (e : page ps n .level ≡ suc l)
       (order : inOrder (byKey w) (page ps n .entries) ≡ true) (starts : all (λ (x : Entry). leb (x .start) w) (page ps n .entries) ≡ true)
-      (endless : page ps n .end ≡ alive) (room : length (changed w c (page ps n) .entries) ≤ 5 * least) (takes : all (kindOk N (suc l)) (c .take) ≡ true)
+      (endless : page ps n .end ≡ alive) (room : length (changed w c (page ps n) .entries) ≤ 5 * least)
+      (takes : all (kindOk N (suc l)) (c .take) ≡ true)
       (rise : inOrder lt (wanted w c (page ps n)) ≡ true) where
     abbrev q : Page
     q = changed w c (page ps n)
@@ -188,7 +210,8 @@ module _ (least : ℕ) (two-or-more : 2 ≤ least) (w : ℕ) (lim : w < alive) (
       where
         by : At m → PageStep (page ps m) (page placed m)
         by (inl z) =
-            steady (ap (λ (x : Page). x .level) (z .1) ∙ ap (λ (i : ℕ). page ps i .level) (sym (z .0))) (ap (λ (x : Page). x .start) (z .1) ∙ ap (λ (i : ℕ). page ps i .start) (sym (z .0)))
+            steady (ap (λ (x : Page). x .level) (z .1) ∙ ap (λ (i : ℕ). page ps i .level) (sym (z .0)))
+            (ap (λ (x : Page). x .start) (z .1) ∙ ap (λ (i : ℕ). page ps i .start) (sym (z .0)))
             (ap (λ (x : Page). x .end) (z .1) ∙ ap (λ (i : ℕ). page ps i .end) (sym (z .0)))
         by (inr z) = step-same (page ps m) (page placed m) (z .1)
 
@@ -224,12 +247,14 @@ module _ (least : ℕ) (two-or-more : 2 ≤ least) (w : ℕ) (lim : w < alive) (
     }
       where
         zero-at : (m : ℕ) → isFree (page placed m) ≡ true → At m → page placed m ≡ free
-        zero-at m h (inl z) = absurd (not-both (isFree (page ps m)) (sym (free-is m) ∙ h) (ap (λ (i : ℕ). isFree (page ps i)) (z .0) ∙ used))
+        zero-at m h (inl z) =
+            absurd (not-both (isFree (page ps m)) (sym (free-is m) ∙ h) (ap (λ (i : ℕ). isFree (page ps i)) (z .0) ∙ used))
         zero-at m h (inr z) = z .1 ∙ v .zeros m (sym (free-is m) ∙ h)
 
         fit-at : (m : ℕ) → isFree (page placed m) ≡ false → At m → PageFit least N w old (page placed m)
         fit-at m u (inl z) = subst (PageFit least N w old) (sym (z .1))
-            (changed-fit w lim least N pos old low-old c (page ps n) (v .fit n used) endless room (subst (λ (k : ℕ). all (kindOk N k) (c .take) ≡ true) (sym e) takes) rise)
+            (changed-fit w lim least N pos old low-old c (page ps n) (v .fit n used) endless room
+            (subst (λ (k : ℕ). all (kindOk N k) (c .take) ≡ true) (sym e) takes) rise)
         fit-at m u (inr z) = subst (PageFit least N w old) (sym (z .1)) (v .fit m (sym (free-is m) ∙ u))
 
         drop : Entry → Bool
@@ -238,16 +263,23 @@ module _ (least : ℕ) (two-or-more : 2 ≤ least) (w : ℕ) (lim : w < alive) (
         changed-lead : (f : Entry) → In f (q .entries) → f .start < w → Skips (page ps n .level) f ⊎ OldLead ps (page ps n .level) f
         changed-lead f i h = by (in-born w (c .take) f _ i)
           where
-            by : ((x : Pair) × (In x (c .take)) × (f ≡ born w x)) ⊎ In f (endThose (λ (g : Entry). liveAt w g && has (g .key) (c .drop)) w (page ps n .entries)) → Skips (page ps n .level) f ⊎ OldLead ps (page ps n .level) f
+            by : ((x : Pair) × (In x (c .take)) × (f ≡ born w x))
+                ⊎ In f (endThose (λ (g : Entry). liveAt w g && has (g .key) (c .drop)) w (page ps n .entries))
+                → Skips (page ps n .level) f ⊎ OldLead ps (page ps n .level) f
             by (inl z) = absurd (omega (arith, ap (λ (g : Entry). g .start) (z .2)))
-            by (inr z) = lead-since ps (page ps n) (λ (g : Entry). liveAt w g && has (g .key) (c .drop)) (λ g y. live-end g (both-true (liveAt w g) (has (g .key) (c .drop)) y .0)) (λ g j y. v .leads n g used j y) f z h
+            by (inr z) =
+                lead-since ps (page ps n) (λ (g : Entry). liveAt w g && has (g .key) (c .drop))
+                (λ g y. live-end g (both-true (liveAt w g) (has (g .key) (c .drop)) y .0)) (λ g j y. v .leads n g used j y) f z h
 
-        lead-at : (m : ℕ) (f : Entry) → isFree (page placed m) ≡ false → In f (page placed m .entries) → f .start < w → At m → Skips (page placed m .level) f ⊎ OldLead placed (page placed m .level) f
+        lead-at : (m : ℕ) (f : Entry) → isFree (page placed m) ≡ false → In f (page placed m .entries) → f .start < w → At m
+            → Skips (page placed m .level) f ⊎ OldLead placed (page placed m .level) f
         lead-at m f u i h (inl z) =
-            subst (λ (x : Page). Skips (x .level) f ⊎ OldLead placed (x .level) f) (sym (z .1)) (or-move ps placed (page ps n .level) f h steps (changed-lead f (subst (λ (x : Page). In f (x .entries)) (z .1) i) h))
+            subst (λ (x : Page). Skips (x .level) f ⊎ OldLead placed (x .level) f) (sym (z .1))
+            (or-move ps placed (page ps n .level) f h steps (changed-lead f (subst (λ (x : Page). In f (x .entries)) (z .1) i) h))
         lead-at m f u i h (inr z) =
             subst (λ (x : Page). Skips (x .level) f ⊎ OldLead placed (x .level) f) (sym (z .1))
-            (or-move ps placed (page ps m .level) f h steps (v .leads m f (sym (free-is m) ∙ u) (subst (λ (x : Page). In f (x .entries)) (z .1) i) h))
+            (or-move ps placed (page ps m .level) f h steps
+            (v .leads m f (sym (free-is m) ∙ u) (subst (λ (x : Page). In f (x .entries)) (z .1) i) h))
 
         held-at : (m : ℕ) → R m ⊎ HasRouter ps (Pend ps n (wanted w c (page ps n))) m → R m ⊎ HasRouter placed (Final placed) m
         held-at m (inl z) = inl z
@@ -262,12 +294,15 @@ module _ (least : ℕ) (two-or-more : 2 ≤ least) (w : ℕ) (lim : w < alive) (
           where
             by : Pend ps n (wanted w c (page ps n)) (h .parent) (h .router) → In (h .router) (pairsAt w (page placed (h .parent)))
             by (inl z) = subst (λ (x : Page). In (h .router) (pairsAt w x)) (sym (getD-set-other ps n (h .parent) q free (z .0))) (z .1)
-            by (inr z) = subst (λ (i : ℕ). In (h .router) (pairsAt w (page placed i))) (sym (z .0)) (subst (In (h .router)) (sym shows-is) (z .1))
+            by (inr z) =
+                subst (λ (i : ℕ). In (h .router) (pairsAt w (page placed i))) (sym (z .0)) (subst (In (h .router)) (sym shows-is) (z .1))
 
   -- a group rebuilt
-  module _ (ps qs : List Page) (n l : ℕ) (want rs us news : List Pair) (R : ℕ → Type 0) (v : Inv ps R (Pend ps n want)) (d : Redone least two-or-more w N ps qs (suc l) rs us news)
+  module _ (ps qs : List Page) (n l : ℕ) (want rs us news : List Pair) (R : ℕ → Type 0) (v : Inv ps R (Pend ps n want))
+      (d : Redone least two-or-more w N ps qs (suc l) rs us news)
       (mem : (m : ℕ) → In m (values rs) → page ps m .level ≡ suc l) (own : page ps n .level ≡ suc l)
-      (own-us : (x : Pair) → In x want → In x us) (other-us : (i : ℕ) (x : Pair) → In i (values rs) → i ≢ n → In x (pairsAt w (page ps i)) → In x us) where
+      (own-us : (x : Pair) → In x want → In x us)
+      (other-us : (i : ℕ) (x : Pair) → In i (values rs) → i ≢ n → In x (pairsAt w (page ps i)) → In x us) where
     abbrev N′ : ℕ → Type 0
     N′ m = Now least two-or-more w N ps qs (suc l) rs news m
 
@@ -295,7 +330,9 @@ module _ (least : ℕ) (two-or-more : 2 ≤ least) (w : ℕ) (lim : w < alive) (
     zeros-redone : (m : ℕ) → isFree (page qs m) ≡ true → page qs m ≡ free
     zeros-redone m h = at (d .now m)
       where
-        by : page qs m ≡ gone w (page ps m) → In m (values rs) → ((page ps m .start ≡ w) × (gone w (page ps m) ≡ free)) ⊎ ((page ps m .start ≢ w) × (gone w (page ps m) ≡ killed w (page ps m))) → page qs m ≡ free
+        by : page qs m ≡ gone w (page ps m) → In m (values rs)
+            → ((page ps m .start ≡ w) × (gone w (page ps m) ≡ free))
+            ⊎ ((page ps m .start ≢ w) × (gone w (page ps m) ≡ killed w (page ps m))) → page qs m ≡ free
         by e i (inl z) = e ∙ z .1
         by e i (inr z) = absurd (not-both (isFree (page ps m)) (ap isFree (sym (e ∙ z .1)) ∙ h) (used-mem m i))
 
@@ -310,37 +347,47 @@ module _ (least : ℕ) (two-or-more : 2 ≤ least) (w : ℕ) (lim : w < alive) (
         less : (p : Page) → PageFit least N w old p → p .start ≢ w → p .start < w
         less p g y = let h : p .start ≤ w = g .span .starts in omega arith
 
-        by : page qs m ≡ gone w (page ps m) → In m (values rs) → ((page ps m .start ≡ w) × (gone w (page ps m) ≡ free)) ⊎ ((page ps m .start ≢ w) × (gone w (page ps m) ≡ killed w (page ps m))) → PageFit least N w old (page qs m)
+        by : page qs m ≡ gone w (page ps m) → In m (values rs)
+            → ((page ps m .start ≡ w) × (gone w (page ps m) ≡ free))
+            ⊎ ((page ps m .start ≢ w) × (gone w (page ps m) ≡ killed w (page ps m))) → PageFit least N w old (page qs m)
         by e i (inl z) = absurd (not-both (isFree (page qs m)) (ap isFree (e ∙ z .1)) u)
         by e i (inr z) =
             let g = v .fit m (used-mem m i) in
-            subst (PageFit least N w old) (sym (e ∙ z .1)) (killed-fit w lim least N pos old low-old (page ps m) g (less (page ps m) g (z .0)))
+            subst (PageFit least N w old) (sym (e ∙ z .1))
+            (killed-fit w lim least N pos old low-old (page ps m) g (less (page ps m) g (z .0)))
 
         at : N′ m → PageFit least N w old (page qs m)
         at (same e x) = subst (PageFit least N w old) (sym e) (v .fit m (ap isFree (sym e) ∙ u))
         at (went i e) = by e i (gone-cases (page ps m))
-        at (came xs e s f z) = subst (PageFit least N w old) (sym e) (filled-fit w lim least N pos old low-old (suc l) xs (f .few) (f .rise) (f .kinds))
+        at (came xs e s f z) =
+            subst (PageFit least N w old) (sym e) (filled-fit w lim least N pos old low-old (suc l) xs (f .few) (f .rise) (f .kinds))
 
-    leads-redone : (m : ℕ) (e : Entry) → isFree (page qs m) ≡ false → In e (page qs m .entries) → e .start < w → Skips (page qs m .level) e ⊎ OldLead qs (page qs m .level) e
+    leads-redone : (m : ℕ) (e : Entry) → isFree (page qs m) ≡ false → In e (page qs m .entries) → e .start < w
+        → Skips (page qs m .level) e ⊎ OldLead qs (page qs m .level) e
     leads-redone m e u i h = at (d .now m)
       where
-        by : page qs m ≡ gone w (page ps m) → In m (values rs) → ((page ps m .start ≡ w) × (gone w (page ps m) ≡ free)) ⊎ ((page ps m .start ≢ w) × (gone w (page ps m) ≡ killed w (page ps m)))
+        by : page qs m ≡ gone w (page ps m) → In m (values rs)
+            → ((page ps m .start ≡ w) × (gone w (page ps m) ≡ free))
+            ⊎ ((page ps m .start ≢ w) × (gone w (page ps m) ≡ killed w (page ps m)))
             → Skips (page qs m .level) e ⊎ OldLead qs (page qs m .level) e
         by z j (inl y) = absurd (not-both (isFree (page qs m)) (ap isFree (z ∙ y .1)) u)
         by z j (inr y) =
             let k : page qs m ≡ killed w (page ps m) = z ∙ y .1 in
             subst (λ (x : Page). Skips (x .level) e ⊎ OldLead qs (x .level) e) (sym k)
             (or-move ps qs (page ps m .level) e h steps-all
-            (lead-since ps (page ps m) (liveAt w) live-end (λ f t r. v .leads m f (used-mem m j) t r) e (subst (λ (x : Page). In e (x .entries)) k i) h))
+            (lead-since ps (page ps m) (liveAt w) live-end (λ f t r. v .leads m f (used-mem m j) t r) e
+            (subst (λ (x : Page). In e (x .entries)) k i) h))
 
         at : N′ m → Skips (page qs m .level) e ⊎ OldLead qs (page qs m .level) e
         at (same z x) = subst (λ (y : Page). Skips (y .level) e ⊎ OldLead qs (y .level) e) (sym z)
-            (or-move ps qs (page ps m .level) e h steps-all (v .leads m e (ap isFree (sym z) ∙ u) (subst (λ (y : Page). In e (y .entries)) z i) h))
+            (or-move ps qs (page ps m .level) e h steps-all
+            (v .leads m e (ap isFree (sym z) ∙ u) (subst (λ (y : Page). In e (y .entries)) z i) h))
         at (went j z) = by z j (gone-cases (page ps m))
         at (came xs z s f y) = absurd (filled-start (suc l) xs e (subst (λ (x : Page). In e (x .entries)) z i) h)
 
     pub inv-redone : (R′ : ℕ → Type 0) (W : ℕ → Pair → Type 0) → ((m : ℕ) → Lives qs m → R′ m ⊎ HasRouter qs W m) → Inv qs R′ W
-    inv-redone R′ W h = record { long = d .long ∙ v .long; front = front-redone; zeros = zeros-redone; fit = fit-redone; leads = leads-redone; held = h }
+    inv-redone R′ W h =
+        record { long = d .long ∙ v .long; front = front-redone; zeros = zeros-redone; fit = fit-redone; leads = leads-redone; held = h }
 
     -- what a page that lives is led to by
     pub record Old (m : ℕ) : Type 0 where
@@ -393,7 +440,8 @@ module _ (least : ℕ) (two-or-more : 2 ≤ least) (w : ℕ) (lim : w < alive) (
         at (inl z) = by (z .0) (z .1) (d .now (h .parent))
         at (inr z) = inr (new (own-us (h .router) (z .1)) (ap (λ (i : ℕ). page ps i .level) (z .0) ∙ own))
 
-    new-shows : (m : ℕ) (k : New m) → (Lives qs (k .stands .number)) × (page qs (k .stands .number) .level ≡ suc l) × (In (k .router) (pairsAt w (page qs (k .stands .number))))
+    new-shows : (m : ℕ) (k : New m) → (Lives qs (k .stands .number)) × (page qs (k .stands .number) .level ≡ suc l)
+        × (In (k .router) (pairsAt w (page qs (k .stands .number))))
     new-shows m k = (
       ap (livesAt w) (k .stands .wrote) ∙ filled-lives l (k .stands .pairs),
       ap (λ (z : Page). z .level) (k .stands .wrote),
@@ -424,7 +472,8 @@ module _ (least : ℕ) (two-or-more : 2 ≤ least) (w : ℕ) (lim : w < alive) (
         at (came xs e s f z) = made z (ap (λ (y : Page). y .level) e)
 
     -- the parent's turn
-    module _ (P : ℕ) (D : Change) (before after : List Pair) (level : page ps P .level ≡ suc (suc l)) (lives : Lives ps P) (live : pairsAt w (page ps P) ≡ before ++ (rs ++ after))
+    module _ (P : ℕ) (D : Change) (before after : List Pair) (level : page ps P .level ≡ suc (suc l)) (lives : Lives ps P)
+        (live : pairsAt w (page ps P) ≡ before ++ (rs ++ after))
         (made-is : wanted w D (page qs P) ≡ before ++ (news ++ after)) where
       parent-stays : page qs P ≡ page ps P
       parent-stays = at (d .now P)
@@ -455,7 +504,8 @@ module _ (least : ℕ) (two-or-more : 2 ≤ least) (w : ℕ) (lim : w < alive) (
       pub inv-up : Inv qs R (Pend qs P (wanted w D (page qs P)))
       inv-up = inv-redone R (Pend qs P (wanted w D (page qs P))) (λ m h. at m (led m h))
         where
-          made-held : (m : ℕ) → page qs m .level ≡ suc l → (y : Pair) × (In y news) × (m ≡ y .value) → HasRouter qs (Pend qs P (wanted w D (page qs P))) m
+          made-held : (m : ℕ) → page qs m .level ≡ suc l → (y : Pair) × (In y news) × (m ≡ y .value)
+              → HasRouter qs (Pend qs P (wanted w D (page qs P))) m
           made-held m e z = record {
             parent = P;
             router = z .0;
@@ -465,30 +515,65 @@ module _ (least : ℕ) (two-or-more : 2 ≤ least) (w : ℕ) (lim : w < alive) (
             leads = sym (z .2);
           }
 
-          old-shows : (m : ℕ) → (In m (values rs) → ⊥) → (o : Old m) → (o .parent ≡ P) ⊎ (o .parent ≢ P) → Pend qs P (wanted w D (page qs P)) (o .parent) (o .router)
-          old-shows m a o (inl z) = inr (z, in-made (o .router) (subst (In (o .router)) live (subst (λ (i : ℕ). In (o .router) (pairsAt w (page ps i))) z (o .shows))) (λ (j : In (o .router .value) (values rs)). a (subst (λ (i : ℕ). In i (values rs)) (o .leads) j)))
+          old-shows : (m : ℕ) → (In m (values rs) → ⊥) → (o : Old m) → (o .parent ≡ P) ⊎ (o .parent ≢ P)
+              → Pend qs P (wanted w D (page qs P)) (o .parent) (o .router)
+          old-shows m a o (inl z) =
+              inr (
+                z,
+                in-made (o .router)
+                    (subst (In (o .router)) live (subst (λ (i : ℕ). In (o .router) (pairsAt w (page ps i))) z (o .shows)))
+                    (λ (j : In (o .router .value) (values rs)). a (subst (λ (i : ℕ). In i (values rs)) (o .leads) j)),
+              )
           old-shows m a o (inr z) = inl (z, subst (λ (p : Page). In (o .router) (pairsAt w p)) (sym (o .stays)) (o .shows))
 
           at : (m : ℕ) → LedOrNew m → R m ⊎ HasRouter qs (Pend qs P (wanted w D (page qs P))) m
           at m (made i e) = inr (made-held m e (in-map (λ (r : Pair). r .value) m news i))
           at m (rooted z a) = inl z
-          at m (older a o) = inr (record { parent = o .parent; router = o .router; lives = o .lives; level = o .level; shows = old-shows m a o (same? (o .parent) P); leads = o .leads })
+          at m (older a o) =
+              inr (record {
+                parent = o .parent;
+                router = o .router;
+                lives = o .lives;
+                level = o .level;
+                shows = old-shows m a o (same? (o .parent) P);
+                leads = o .leads;
+              })
           at m (newer k) =
               let (x, y, z) = new-shows m k in
-              inr (record { parent = k .stands .number; router = k .router; lives = x; level = y ∙ k .level; shows = inl (λ (e : k .stands .number ≡ P). omega (arith, ap (λ (i : ℕ). page qs i .level) e, P-level, y), z); leads = k .leads })
+              inr (record {
+                parent = k .stands .number;
+                router = k .router;
+                lives = x;
+                level = y ∙ k .level;
+                shows = inl (λ (e : k .stands .number ≡ P). omega (arith, ap (λ (i : ℕ). page qs i .level) e, P-level, y), z);
+                leads = k .leads;
+              })
 
     -- a root rebuilt
-    pub inv-root : (R′ : ℕ → Type 0) → ((m : ℕ) → In m (values news) → page qs m .level ≡ suc l → R′ m) → ((m : ℕ) → R m → (In m (values rs) → ⊥) → R′ m) → Inv qs R′ (Final qs)
+    pub inv-root : (R′ : ℕ → Type 0) → ((m : ℕ) → In m (values news) → page qs m .level ≡ suc l → R′ m)
+        → ((m : ℕ) → R m → (In m (values rs) → ⊥) → R′ m) → Inv qs R′ (Final qs)
     inv-root R′ f g = inv-redone R′ (Final qs) (λ m y. at m (led m y))
       where
         at : (m : ℕ) → LedOrNew m → R′ m ⊎ HasRouter qs (Final qs) m
         at m (made i e) = inl (f m i e)
         at m (rooted z a) = inl (g m z a)
-        at m (older a o) = inr (record { parent = o .parent; router = o .router; lives = o .lives; level = o .level; shows = subst (λ (p : Page). In (o .router) (pairsAt w p)) (sym (o .stays)) (o .shows); leads = o .leads })
-        at m (newer k) = let (x, y, z) = new-shows m k in inr (record { parent = k .stands .number; router = k .router; lives = x; level = y ∙ k .level; shows = z; leads = k .leads })
+        at m (older a o) =
+            inr (record {
+              parent = o .parent;
+              router = o .router;
+              lives = o .lives;
+              level = o .level;
+              shows = subst (λ (p : Page). In (o .router) (pairsAt w p)) (sym (o .stays)) (o .shows);
+              leads = o .leads;
+            })
+        at m (newer k) =
+            let (x, y, z) = new-shows m k in
+            inr (record { parent = k .stands .number; router = k .router; lives = x; level = y ∙ k .level; shows = z; leads = k .leads })
 
   -- a root over two new pages
-  module _ (qs : List Page) (l n : ℕ) (news : List Pair) (v : Inv qs (λ (m : ℕ). (In m (values news)) × (page qs m .level ≡ suc l)) (Final qs)) (empty : page qs n .level ≡ 0) (five : 5 ≤ n) (inn : n < length qs)
+  module _ (qs : List Page) (l n : ℕ) (news : List Pair)
+      (v : Inv qs (λ (m : ℕ). (In m (values news)) × (page qs m .level ≡ suc l)) (Final qs)) (empty : page qs n .level ≡ 0) (five : 5 ≤ n)
+      (inn : n < length qs)
       (fill : Fill least two-or-more w N (suc (suc l)) news) where
     abbrev F : Page
     F = filled w (suc (suc l)) news
@@ -537,13 +622,17 @@ module _ (least : ℕ) (two-or-more : 2 ≤ least) (w : ℕ) (lim : w < alive) (
         zero-at m h (inr z) = z .1 ∙ v .zeros m (ap isFree (sym (z .1)) ∙ h)
 
         fit-at : (m : ℕ) → isFree (page crowned m) ≡ false → Atₙ m → PageFit least N w old (page crowned m)
-        fit-at m u (inl z) = subst (PageFit least N w old) (sym (z .1)) (filled-fit w lim least N pos old low-old (suc (suc l)) news (fill .few) (fill .rise) (fill .kinds))
+        fit-at m u (inl z) =
+            subst (PageFit least N w old) (sym (z .1))
+            (filled-fit w lim least N pos old low-old (suc (suc l)) news (fill .few) (fill .rise) (fill .kinds))
         fit-at m u (inr z) = subst (PageFit least N w old) (sym (z .1)) (v .fit m (ap isFree (sym (z .1)) ∙ u))
 
-        lead-at : (m : ℕ) (f : Entry) → isFree (page crowned m) ≡ false → In f (page crowned m .entries) → f .start < w → Atₙ m → Skips (page crowned m .level) f ⊎ OldLead crowned (page crowned m .level) f
+        lead-at : (m : ℕ) (f : Entry) → isFree (page crowned m) ≡ false → In f (page crowned m .entries) → f .start < w → Atₙ m
+            → Skips (page crowned m .level) f ⊎ OldLead crowned (page crowned m .level) f
         lead-at m f u i h (inl z) = absurd (filled-start (suc (suc l)) news f (subst (λ (x : Page). In f (x .entries)) (z .1) i) h)
         lead-at m f u i h (inr z) = subst (λ (x : Page). Skips (x .level) f ⊎ OldLead crowned (x .level) f) (sym (z .1))
-            (or-move qs crowned (page qs m .level) f h crown-steps (v .leads m f (ap isFree (sym (z .1)) ∙ u) (subst (λ (x : Page). In f (x .entries)) (z .1) i) h))
+            (or-move qs crowned (page qs m .level) f h crown-steps
+            (v .leads m f (ap isFree (sym (z .1)) ∙ u) (subst (λ (x : Page). In f (x .entries)) (z .1) i) h))
 
         n-lives : Lives crowned n
         n-lives = ap (livesAt w) crown ∙ filled-lives (suc l) news
@@ -567,7 +656,8 @@ module _ (least : ℕ) (two-or-more : 2 ≤ least) (w : ℕ) (lim : w < alive) (
                   leads = sym e;
                 }
             by (inr k) =
-                let e : page crowned (k .parent) ≡ page qs (k .parent) = getD-set-other qs n (k .parent) F free (not-n (k .parent) (k .lives)) in
+                let e : page crowned (k .parent) ≡ page qs (k .parent)
+                = getD-set-other qs n (k .parent) F free (not-n (k .parent) (k .lives)) in
                 record {
                   parent = k .parent;
                   router = k .router;
@@ -583,13 +673,21 @@ module _ (least : ℕ) (two-or-more : 2 ≤ least) (w : ℕ) (lim : w < alive) (
     deposed = set ps r (gone w (page ps r))
 
     only : Redone least two-or-more w N ps deposed (suc l) (pair 0 r ∷ []) [] []
-    only = record { now = λ m. at m (page-set-at ps r m (gone w (page ps r)) (in-list ps r l e)); kept = λ y i. absurd i; long = length-set ps r (gone w (page ps r)); kinds = refl; news-few = omega arith }
+    only =
+        record {
+          now = λ m. at m (page-set-at ps r m (gone w (page ps r)) (in-list ps r l e));
+          kept = λ y i. absurd i;
+          long = length-set ps r (gone w (page ps r));
+          kinds = refl;
+          news-few = omega arith;
+        }
       where
         not-r : (m : ℕ) → m ≢ r → In m (values (pair 0 r ∷ [])) → ⊥
         not-r m d (inl z) = d z
         not-r m d (inr z) = z
 
-        at : (m : ℕ) → ((m ≡ r) × (page deposed m ≡ gone w (page ps r))) ⊎ ((m ≢ r) × (page deposed m ≡ page ps m)) → Now least two-or-more w N ps deposed (suc l) (pair 0 r ∷ []) [] m
+        at : (m : ℕ) → ((m ≡ r) × (page deposed m ≡ gone w (page ps r))) ⊎ ((m ≢ r) × (page deposed m ≡ page ps m))
+            → Now least two-or-more w N ps deposed (suc l) (pair 0 r ∷ []) [] m
         at m (inl z) = went (inl (z .0)) (z .1 ∙ ap (λ (i : ℕ). gone w (page ps i)) (sym (z .0)))
         at m (inr z) = same (z .1) (not-r m (z .0))
 
@@ -606,7 +704,8 @@ module _ (least : ℕ) (two-or-more : 2 ≤ least) (w : ℕ) (lim : w < alive) (
             led-to (inr z) = absurd z
 
             at : Pend ps r (x ∷ []) (k .parent) (k .router) → ((m ≡ r) ⊎ (m ≡ x .value)) ⊎ HasRouter ps (Pend ps r []) m
-            at (inl z) = inr (record { parent = k .parent; router = k .router; lives = k .lives; level = k .level; shows = inl z; leads = k .leads })
+            at (inl z) =
+                inr (record { parent = k .parent; router = k .router; lives = k .lives; level = k .level; shows = inl z; leads = k .leads })
             at (inr z) = inl (inr (led-to (z .1)))
 
     mem-r : (m : ℕ) → In m (values (pair 0 r ∷ [])) → page ps m .level ≡ suc l
@@ -618,7 +717,9 @@ module _ (least : ℕ) (two-or-more : 2 ≤ least) (w : ℕ) (lim : w < alive) (
     not-other i y (inr z) d j = absurd z
 
     pub inv-deposed : Inv deposed (λ (m : ℕ). m ≡ x .value) (Final deposed)
-    inv-deposed = inv-root ps deposed r l [] (pair 0 r ∷ []) [] [] (λ (m : ℕ). (m ≡ r) ⊎ (m ≡ x .value)) moved only mem-r e (λ y i. i) not-other (λ (m : ℕ). m ≡ x .value) (λ m i z. absurd i) (λ m z a. by m z a)
+    inv-deposed =
+        inv-root ps deposed r l [] (pair 0 r ∷ []) [] [] (λ (m : ℕ). (m ≡ r) ⊎ (m ≡ x .value)) moved only mem-r e (λ y i. i) not-other
+        (λ (m : ℕ). m ≡ x .value) (λ m i z. absurd i) (λ m z a. by m z a)
       where
         by : (m : ℕ) → (m ≡ r) ⊎ (m ≡ x .value) → (In m (values (pair 0 r ∷ [])) → ⊥) → m ≡ x .value
         by m (inl z) a = absurd (a (inl z))

@@ -19,12 +19,16 @@ use Rattle.model.specs.Store.{Store, page, next, last}
 use Rattle.model.specs.Walk.{rootAt, heightOf, Seen, seenUnder, seenBelow, seen, keyLimit}
 use Rattle.model.specs.Sound.{isPage, entryOk, liesWell, keysOk, firstVersion}
 use Rattle.model.specs.Calls.{back}
+use Rattle.model.specs.Inner.{In}
+use Rattle.model.specs.ByRule.{Readable, Sound, GoodPage, spansWell, numbers, livesAt, enough}
+use Rattle.model.specs.Tree.{Holds}
 use Rattle.model.proofs.lists.Lists.{both-true, both-intro}
-use Rattle.model.proofs.lists.Members.{not-both, either-left, either-right, bool-cases, In, all-in, all-by, all-implies, in-map, map-in, those-in, has-in, in-has}
-use Rattle.model.proofs.sound.ByRule.{Readable, old-current, Sound, GoodPage, GoodEntry, Span, of-span, ok-entry, leadsIfSpoken, rule7-by, spansWell, numbers, livesAt, enough, used-in}
+use Rattle.model.proofs.lists.Members.{not-both, either-left, either-right, bool-cases, all-in, all-by, all-implies, in-map, map-in}
+use Rattle.model.proofs.lists.Members.{those-in, has-in, in-has}
+use Rattle.model.proofs.lists.Bools.{same?}
+use Rattle.model.proofs.sound.ByRule.{old-current, GoodEntry, Span, of-span, ok-entry, leadsIfSpoken, rule7-by, used-in}
 use Rattle.model.proofs.sound.Walks.{Reach, Self, reach-self, reach-on, seen-reached, IsSeen, reached-under}
-use Rattle.model.proofs.tree.Tree.{Holds}
-use Rattle.model.proofs.tree.Shows.{Shows, RootFair, same?}
+use Rattle.model.proofs.tree.Shows.{Shows, RootFair}
 use Rattle.model.proofs.tree.UpdateChanges.{height-is}
 use Rattle.model.proofs.tree.Bridge.{passesAt}
 use Rattle.model.proofs.sound.Ready.{used-level, level-used, within-of, of-within, root-lives, last-is, limit, root-used}
@@ -74,8 +78,10 @@ module _ (least : ℕ) (four : 4 ≤ least) (s : Store) (d : Sound least s) (o :
     pub now : rootAt xs w ≡ r
     pub past : (v : ℕ) → v < w → rootAt xs v ≡ rootAt (s .slots) v
 
-  module _ (xs : List Slot) (qs : List Page) (r : ℕ) (zs : List Pair) (shows : Shows least w qs r zs) (kept : ClimbKept least two-of w lim pos N old low-old qs r)
-      (same : map (back w) qs ≡ map (back w) (s .pages)) (older : (v : ℕ) → v < w → (m : ℕ) → pairsAt v (page qs m) ≡ pairsAt v (page (s .pages) m)) (slots : SlotsOk xs r) where
+  module _ (xs : List Slot) (qs : List Page) (r : ℕ) (zs : List Pair) (shows : Shows least w qs r zs)
+      (kept : ClimbKept least two-of w lim pos N old low-old qs r)
+      (same : map (back w) qs ≡ map (back w) (s .pages))
+      (older : (v : ℕ) → v < w → (m : ℕ) → pairsAt v (page qs m) ≡ pairsAt v (page (s .pages) m)) (slots : SlotsOk xs r) where
     abbrev pub t : Store
     t = record { current = s .current; opened = s .opened; oldest = s .oldest; slots = xs; pages = qs }
 
@@ -125,15 +131,19 @@ module _ (least : ℕ) (four : 4 ≤ least) (s : Store) (d : Sound least s) (o :
     reach-by (suc f) m j h e b = at (v′ .held m h) (λ p l g. reach-by f p (suc j) l g (omega arith))
       where
         at : (m ≡ r) ⊎ HasRouter least two-of w lim pos N old low-old qs (Final least two-of w lim pos N old low-old qs) m
-            → ((p : ℕ) → Lives least two-of w lim pos N old low-old qs p → page qs p .level ≡ suc (suc j) → Reach qs w H r (suc j) p) → Reach qs w H r j m
+            → ((p : ℕ) → Lives least two-of w lim pos N old low-old qs p → page qs p .level ≡ suc (suc j) → Reach qs w H r (suc j) p)
+            → Reach qs w H r j m
         at (inl z) ih = root-case m j e z
-        at (inr k) ih = subst (Reach qs w H r j) (k .leads) (reach-on qs w H r j (k .parent) (k .router) (ih (k .parent) (k .lives) (k .level ∙ ap suc e)) (k .shows))
+        at (inr k) ih =
+            subst (Reach qs w H r j) (k .leads)
+            (reach-on qs w H r j (k .parent) (k .router) (ih (k .parent) (k .lives) (k .level ∙ ap suc e)) (k .shows))
 
     reached : (m j : ℕ) → Lives least two-of w lim pos N old low-old qs m → page qs m .level ≡ suc j → Reach qs w H r j m
     reached m j h e = reach-by 8 m j h e (omega arith)
 
     lives-of : (m j : ℕ) → Reach qs w H r j m → Lives least two-of w lim pos N old low-old qs m
-    lives-of m j h = let n = reach-node least w qs H r root-node j m h in both-intro _ _ (ap not (level-used (page qs m) j (n .level))) (n .lives)
+    lives-of m j h =
+        let n = reach-node least w qs H r root-node j m h in both-intro _ _ (ap not (level-used (page qs m) j (n .level))) (n .lives)
 
     -- where a router that is alive leads
     pub record Kid (j n : ℕ) : Type 0 where
@@ -141,13 +151,20 @@ module _ (least : ℕ) (four : 4 ≤ least) (s : Store) (d : Sound least s) (o :
       pub used : isFree (page qs n) ≡ false
       pub endless : page qs n .end ≡ alive
 
-    kid-of : (m j : ℕ) (x : Pair) → Lives least two-of w lim pos N old low-old qs m → page qs m .level ≡ suc (suc j) → In x (pairsAt w (page qs m)) → Kid j (x .value)
+    kid-of : (m j : ℕ) (x : Pair) → Lives least two-of w lim pos N old low-old qs m → page qs m .level ≡ suc (suc j)
+        → In x (pairsAt w (page qs m)) → Kid j (x .value)
     kid-of m j x h e i =
         let n = reach-node least w qs H r root-node j (x .value) (reach-on qs w H r j m x (reached m (suc j) h e) i) in
         let u : isFree (page qs (x .value)) ≡ false = level-used (page qs (x .value)) j (n .level) in
-        record { level = n .level; used = u; endless = at (v′ .fit (x .value) u .span .ends) (within-of (page qs (x .value) .start) (page qs (x .value) .end) w (n .lives) .1) }
+        record {
+          level = n .level;
+          used = u;
+          endless = at (v′ .fit (x .value) u .span .ends)
+              (within-of (page qs (x .value) .start) (page qs (x .value) .end) w (n .lives) .1);
+        }
       where
-        at : (page qs (x .value) .end ≤ w) ⊎ (page qs (x .value) .end ≡ alive) → w < page qs (x .value) .end → page qs (x .value) .end ≡ alive
+        at : (page qs (x .value) .end ≤ w) ⊎ (page qs (x .value) .end ≡ alive) → w < page qs (x .value) .end
+            → page qs (x .value) .end ≡ alive
         at (inl z) l = absurd (omega arith)
         at (inr z) l = z
 
@@ -162,7 +179,9 @@ module _ (least : ℕ) (four : 4 ≤ least) (s : Store) (d : Sound least s) (o :
       lives-entry : (e : Entry) → In e (p .entries) → liveAt w e ≡ true → Lives least two-of w lim pos N old low-old qs m
       lives-entry e i h =
           let (a, b) = within-of (e .start) (e .end) w h in
-          both-intro _ _ (ap not u) (of-within (p .start) (p .end) w (omega (arith, g .entries e i .later (inr (omega (arith, low-old, b))))) (omega (arith, g .entries e i .sooner (inr (omega (arith, low-old, b))))))
+          both-intro _ _ (ap not u)
+          (of-within (p .start) (p .end) w (omega (arith, g .entries e i .later (inr (omega (arith, low-old, b)))))
+          (omega (arith, g .entries e i .sooner (inr (omega (arith, low-old, b))))))
 
       end-alive : (e : Entry) → In e (p .entries) → e .end ≤ alive
       end-alive e i = at (g .entries e i .span .ends)
@@ -179,10 +198,15 @@ module _ (least : ℕ) (four : 4 ≤ least) (s : Store) (d : Sound least s) (o :
           at (inl z) = either-left (eqb (p .level) 1) _ (eq-eqb (p .level) 1 z)
           at (inr z) = either-right (eqb (p .level) 1) _ (le-leb (e .end) old z)
 
-      leads-to : (e : Entry) → (page qs (e .value) .start ≤ e .start) → (e .end ≤ page qs (e .value) .end) → suc (page qs (e .value) .level) ≡ p .level → leadsIfSpoken t p e ≡ true
-      leads-to e a b c = either-right (eqb (p .level) 1 || leb (e .end) old) _ (both-intro _ _ (both-intro _ _ (le-leb (page qs (e .value) .start) (e .start) a) (le-leb (e .end) (page qs (e .value) .end) b)) (eq-eqb (suc (page qs (e .value) .level)) (p .level) c))
+      leads-to : (e : Entry) → (page qs (e .value) .start ≤ e .start) → (e .end ≤ page qs (e .value) .end)
+          → suc (page qs (e .value) .level) ≡ p .level → leadsIfSpoken t p e ≡ true
+      leads-to e a b c =
+          either-right (eqb (p .level) 1 || leb (e .end) old) _
+          (both-intro _ _ (both-intro _ _ (le-leb (page qs (e .value) .start) (e .start) a) (le-leb (e .end) (page qs (e .value) .end) b))
+          (eq-eqb (suc (page qs (e .value) .level)) (p .level) c))
 
-      live-lead : (e : Entry) → In e (p .entries) → liveAt w e ≡ true → ((e .start < w → page qs (e .value) .start ≤ e .start)) → leadsIfSpoken t p e ≡ true
+      live-lead : (e : Entry) → In e (p .entries) → liveAt w e ≡ true → ((e .start < w → page qs (e .value) .start ≤ e .start))
+          → leadsIfSpoken t p e ≡ true
       live-lead e i h early = at (p .level) refl
         where
           e-in : In (pairOf e) (pairsAt w p)
@@ -201,7 +225,8 @@ module _ (least : ℕ) (four : 4 ≤ least) (s : Store) (d : Sound least s) (o :
           at (suc zero) z = skipped e (inl z)
           at (suc (suc j)) z =
               let k = kid-of m j (pairOf e) (lives-entry e i h) z e-in in
-              leads-to e (start-by j k (split (bool-cases (ltb (e .start) w)))) (omega (arith, k .endless, end-alive e i)) (ap suc (k .level) ∙ sym z)
+              leads-to e (start-by j k (split (bool-cases (ltb (e .start) w)))) (omega (arith, k .endless, end-alive e i))
+              (ap suc (k .level) ∙ sym z)
 
       lead-entry : (e : Entry) → In e (p .entries) → leadsIfSpoken t p e ≡ true
       lead-entry e i = at (bool-cases (liveAt w e))
@@ -209,26 +234,33 @@ module _ (least : ℕ) (four : 4 ≤ least) (s : Store) (d : Sound least s) (o :
           f : EntryFit N w old p e
           f = g .entries e i
 
-          early : (e .start < w) → Skips least two-of w lim pos N old low-old (p .level) e ⊎ OldLead least two-of w lim pos N old low-old qs (p .level) e
+          early : (e .start < w) → Skips least two-of w lim pos N old low-old (p .level) e
+              ⊎ OldLead least two-of w lim pos N old low-old qs (p .level) e
           early z = v′ .leads m e u i z
 
-          start-leaf : Skips least two-of w lim pos N old low-old (p .level) e ⊎ OldLead least two-of w lim pos N old low-old qs (p .level) e → (leadsIfSpoken t p e ≡ true) ⊎ (page qs (e .value) .start ≤ e .start)
+          start-leaf : Skips least two-of w lim pos N old low-old (p .level) e
+              ⊎ OldLead least two-of w lim pos N old low-old qs (p .level) e
+              → (leadsIfSpoken t p e ≡ true) ⊎ (page qs (e .value) .start ≤ e .start)
           start-leaf (inl z) = inl (skipped e z)
           start-leaf (inr z) = inr (z .starts)
 
-          live-by : liveAt w e ≡ true → (leadsIfSpoken t p e ≡ true) ⊎ (e .start < w → page qs (e .value) .start ≤ e .start) → leadsIfSpoken t p e ≡ true
+          live-by : liveAt w e ≡ true → (leadsIfSpoken t p e ≡ true) ⊎ (e .start < w → page qs (e .value) .start ≤ e .start)
+              → leadsIfSpoken t p e ≡ true
           live-by h (inl z) = z
           live-by h (inr z) = live-lead e i h z
 
-          early-by : (ltb (e .start) w ≡ true) ⊎ (ltb (e .start) w ≡ false) → (leadsIfSpoken t p e ≡ true) ⊎ (e .start < w → page qs (e .value) .start ≤ e .start)
+          early-by : (ltb (e .start) w ≡ true) ⊎ (ltb (e .start) w ≡ false)
+              → (leadsIfSpoken t p e ≡ true) ⊎ (e .start < w → page qs (e .value) .start ≤ e .start)
           early-by (inr z) = inr (λ (y : e .start < w). absurd (omega (arith, ltb-false (e .start) w z)))
           early-by (inl z) = by (start-leaf (early (ltb-true (e .start) w z)))
             where
-              by : (leadsIfSpoken t p e ≡ true) ⊎ (page qs (e .value) .start ≤ e .start) → (leadsIfSpoken t p e ≡ true) ⊎ (e .start < w → page qs (e .value) .start ≤ e .start)
+              by : (leadsIfSpoken t p e ≡ true) ⊎ (page qs (e .value) .start ≤ e .start)
+                  → (leadsIfSpoken t p e ≡ true) ⊎ (e .start < w → page qs (e .value) .start ≤ e .start)
               by (inl y) = inl y
               by (inr y) = inr (λ _. y)
 
-          dead-lead : e .end ≤ w → Skips least two-of w lim pos N old low-old (p .level) e ⊎ OldLead least two-of w lim pos N old low-old qs (p .level) e → leadsIfSpoken t p e ≡ true
+          dead-lead : e .end ≤ w → Skips least two-of w lim pos N old low-old (p .level) e
+              ⊎ OldLead least two-of w lim pos N old low-old qs (p .level) e → leadsIfSpoken t p e ≡ true
           dead-lead h (inl z) = skipped e z
           dead-lead h (inr z) = leads-to e (z .starts) (ends (z .ends)) (z .down)
             where
@@ -244,10 +276,12 @@ module _ (least : ℕ) (four : 4 ≤ least) (s : Store) (d : Sound least s) (o :
           at (inl h) = live-by h (early-by (bool-cases (ltb (e .start) w)))
           at (inr h) = let z : e .end ≤ w = dead-end h (bool-cases (ltb w (e .end))) in dead-lead z (early (omega (arith, f .span .some)))
 
-      kind-entry : (e : Entry) → In e (p .entries) → pick (eqb (p .level) 1) (leb 1 (e .start) && ltb (e .value) 4294967296) (isPage (length (t .pages)) (e .value)) ≡ true
+      kind-entry : (e : Entry) → In e (p .entries)
+          → pick (eqb (p .level) 1) (leb 1 (e .start) && ltb (e .value) 4294967296) (isPage (length (t .pages)) (e .value)) ≡ true
       kind-entry e i = at (eqb (p .level) 1) refl (both-true (ltb (e .key) keyLimit) _ (g .entries e i .kind) .1)
         where
-          at : (b : Bool) → eqb (p .level) 1 ≡ b → pick b (ltb (e .value) 4294967296) (leb 5 (e .value) && ltb (e .value) N) ≡ true → pick b (leb 1 (e .start) && ltb (e .value) 4294967296) (isPage (length (t .pages)) (e .value)) ≡ true
+          at : (b : Bool) → eqb (p .level) 1 ≡ b → pick b (ltb (e .value) 4294967296) (leb 5 (e .value) && ltb (e .value) N) ≡ true
+              → pick b (leb 1 (e .start) && ltb (e .value) 4294967296) (isPage (length (t .pages)) (e .value)) ≡ true
           at true z h = both-intro _ _ (le-leb 1 (e .start) (g .entries e i .leaf (eqb-true (p .level) 1 z))) h
           at false z h = subst (λ (n : ℕ). (leb 5 (e .value) && ltb (e .value) n) ≡ true) (sym (v′ .long)) h
 
@@ -282,7 +316,13 @@ module _ (least : ℕ) (four : 4 ≤ least) (s : Store) (d : Sound least s) (o :
 
     -- they look as they did
     pub steady-past : (v : ℕ) → old ≤ v → v < w → Alike s v t v
-    steady-past v from h = record { root = slots .past v h; height = ap pred (level-alike w lim (s .pages) qs same back-free v h (rootAt (s .slots) v) (past-root v from h)); shows = older v h }
+    steady-past v from h =
+        record {
+          root = slots .past v h;
+          height = ap pred
+              (level-alike w lim (s .pages) qs same back-free v h (rootAt (s .slots) v) (past-root v from h));
+          shows = older v h;
+        }
 
     seen-past : (v : ℕ) → old ≤ v → v < w → seen t v ≡ seen s v
     seen-past v from h = alike-seen s v t v (steady-past v from h)
@@ -306,14 +346,18 @@ module _ (least : ℕ) (four : 4 ≤ least) (s : Store) (d : Sound least s) (o :
       where
         at : (v < w) ⊎ (v ≡ w) → all keysOk (seen t v) ≡ true
         at (inl z) = ap (all keysOk) (seen-past v (h .from) z) ∙ d .keys v (before v (h .from) z)
-        at (inr z) = subst (λ (u : ℕ). all keysOk (seen t u) ≡ true) (sym z) (all-implies (passesAt least) keysOk (λ x q. both-true (keysOk x) _ q .0) (seen t w) passes-now)
+        at (inr z) =
+            subst (λ (u : ℕ). all keysOk (seen t u) ≡ true) (sym z)
+            (all-implies (passesAt least) keysOk (λ x q. both-true (keysOk x) _ q .0) (seen t w) passes-now)
 
     counts-t : (v : ℕ) → Readable t v → all (enough least) (seen t v) ≡ true
     counts-t v h = at (split-at v (h .upto))
       where
         at : (v < w) ⊎ (v ≡ w) → all (enough least) (seen t v) ≡ true
         at (inl z) = ap (all (enough least)) (seen-past v (h .from) z) ∙ d .counts v (before v (h .from) z)
-        at (inr z) = subst (λ (u : ℕ). all (enough least) (seen t u) ≡ true) (sym z) (all-implies (passesAt least) (enough least) (λ x q. both-true (keysOk x) (enough least x) q .1) (seen t w) passes-now)
+        at (inr z) =
+            subst (λ (u : ℕ). all (enough least) (seen t u) ≡ true) (sym z)
+            (all-implies (passesAt least) (enough least) (λ x q. both-true (keysOk x) (enough least x) q .1) (seen t w) passes-now)
 
     abbrev nowNumbers : List ℕ
     nowNumbers = map (λ (x : Seen). x .number) (seenBelow H qs w true 0 keyLimit r)
@@ -324,16 +368,22 @@ module _ (least : ℕ) (four : 4 ≤ least) (s : Store) (d : Sound least s) (o :
         seen-it : livesAt w (page qs n) ≡ true → has n nowNumbers ≡ true
         seen-it h =
             let u : isFree (page qs n) ≡ false = lives-used least two-of w lim pos N old low-old (page qs n) h in
-            in-has n nowNumbers (by (reached-under qs w H keyLimit r (pred (page qs n .level)) n (reached n (pred (page qs n .level)) h (used-level (page qs n) u))))
+            in-has n nowNumbers
+            (by (reached-under qs w H keyLimit r (pred (page qs n .level)) n
+            (reached n (pred (page qs n .level)) h (used-level (page qs n) u))))
           where
-            by : Self qs w H r (pred (page qs n .level)) n ⊎ ((x : Seen) × (In x (seenUnder H qs w keyLimit r)) × (IsSeen qs w (pred (page qs n .level)) n x)) → In n nowNumbers
+            by : Self qs w H r (pred (page qs n .level)) n
+                ⊎ ((x : Seen) × (In x (seenUnder H qs w keyLimit r)) × (IsSeen qs w (pred (page qs n .level)) n x)) → In n nowNumbers
             by (inl z) = inl (z .number)
-            by (inr z) = inr (subst (λ (k : ℕ). In k (map (λ (x : Seen). x .number) (seenUnder H qs w keyLimit r))) (z .2 .number) (map-in (λ (x : Seen). x .number) (z .0) (seenUnder H qs w keyLimit r) (z .1)))
+            by (inr z) =
+                inr (subst (λ (k : ℕ). In k (map (λ (x : Seen). x .number) (seenUnder H qs w keyLimit r))) (z .2 .number)
+                (map-in (λ (x : Seen). x .number) (z .0) (seenUnder H qs w keyLimit r) (z .1)))
 
         lives-it : has n nowNumbers ≡ true → livesAt w (page qs n) ≡ true
         lives-it h =
             let (x, j, e) = in-map (λ (y : Seen). y .number) n (seenBelow H qs w true 0 keyLimit r) (has-in n nowNumbers h) in
-            subst (λ (k : ℕ). livesAt w (page qs k) ≡ true) (sym e) (lives-of (x .number) (x .up) (seen-reached qs w H 0 keyLimit r true x j .is-reached))
+            subst (λ (k : ℕ). livesAt w (page qs k) ≡ true) (sym e)
+            (lives-of (x .number) (x .up) (seen-reached qs w H 0 keyLimit r true x j .is-reached))
 
         at : (a b : Bool) → livesAt w (page qs n) ≡ a → has n nowNumbers ≡ b → a ≡ b
         at true true p q = refl
@@ -348,19 +398,34 @@ module _ (least : ℕ) (four : 4 ≤ least) (s : Store) (d : Sound least s) (o :
         at (inl z) =
             lives-alike w lim (s .pages) qs same back-free v z n ∙ d .reached v (before v (h .from) z) n five (omega (arith, v′ .long))
             ∙ ap (λ (ys : List Seen). has n (map (λ (x : Seen). x .number) ys)) (sym (seen-past v (h .from) z))
-        at (inr z) = subst (λ (u : ℕ). livesAt u (page qs n) ≡ has n (numbers t u)) (sym z) (has-now n ∙ ap (λ (ys : List Seen). has n (map (λ (x : Seen). x .number) ys)) (sym seen-now))
+        at (inr z) =
+            subst (λ (u : ℕ). livesAt u (page qs n) ≡ has n (numbers t u)) (sym z)
+            (has-now n ∙ ap (λ (ys : List Seen). has n (map (λ (x : Seen). x .number) ys)) (sym seen-now))
 
     -- the roots
     used-root : (x : Slot) → In x xs → isFree (page qs (x .root)) ≡ false
     used-root x i =
         let y = stands old xs (slots .begins) (slots .rises) (slots .newer) x i in
         subst (λ (n : ℕ). isFree (page qs n) ≡ false) (y .is)
-        (at (y .at) (y .from) (split-at (y .at) (omega (arith, last-t, y .upto, low-old, leb-true (x .version) w (all-in (λ (y : Slot). leb (y .version) w) x xs (slots .upto) i)))))
+        (at (y .at) (y .from)
+        (split-at (y .at)
+        (omega (
+          arith,
+          last-t,
+          y .upto,
+          low-old,
+          leb-true (x .version) w
+              (all-in (λ (y : Slot). leb (y .version) w) x xs (slots .upto) i),
+        ))))
       where
         at : (v : ℕ) → old ≤ v → (v < w) ⊎ (v ≡ w) → isFree (page qs (rootAt xs v)) ≡ false
         at v from (inl z) = subst (λ (n : ℕ). isFree (page qs n) ≡ false) (sym (slots .past v z))
-            (not-true (isFree (page qs (rootAt (s .slots) v))) (both-true (not (isFree (page qs (rootAt (s .slots) v)))) _ (lives-alike w lim (s .pages) qs same back-free v z (rootAt (s .slots) v) ∙ past-root v from z) .0))
-        at v from (inr z) = subst (λ (v : ℕ). isFree (page qs (rootAt xs v)) ≡ false) (sym z) (subst (λ (n : ℕ). isFree (page qs n) ≡ false) (sym (slots .now)) (level-used (page qs r) H level-r))
+            (not-true (isFree (page qs (rootAt (s .slots) v)))
+            (both-true (not (isFree (page qs (rootAt (s .slots) v)))) _
+            (lives-alike w lim (s .pages) qs same back-free v z (rootAt (s .slots) v) ∙ past-root v from z) .0))
+        at v from (inr z) =
+            subst (λ (v : ℕ). isFree (page qs (rootAt xs v)) ≡ false) (sym z)
+            (subst (λ (n : ℕ). isFree (page qs n) ≡ false) (sym (slots .now)) (level-used (page qs r) H level-r))
 
     five-t : (n : ℕ) → isFree (page qs n) ≡ false → 5 ≤ n
     five-t n u = at (bool-cases (ltb n 5))
@@ -375,7 +440,9 @@ module _ (least : ℕ) (four : 4 ≤ least) (s : Store) (d : Sound least s) (o :
       short = omega (arith, v′ .long, d .short);
       slots-few = slots .few;
       last-low = d .last-low;
-      roots = all-by (λ (x : Slot). isPage (length (t .pages)) (x .root)) xs (λ x i. let u = used-root x i in both-intro _ _ (le-leb 5 (x .root) (five-t (x .root) u)) (lt-ltb (x .root) (length qs) (used-in qs (x .root) u)));
+      roots = all-by (λ (x : Slot). isPage (length (t .pages)) (x .root)) xs
+          (λ x i. let u = used-root x i in both-intro _ _ (le-leb 5 (x .root) (five-t (x .root) u))
+          (lt-ltb (x .root) (length qs) (used-in qs (x .root) u)));
       front = v′ .front;
       zeros = v′ .zeros;
       pages = λ n u. good-page n u;

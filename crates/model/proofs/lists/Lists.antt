@@ -1,13 +1,14 @@
 -- Tests over lists, and what entering and ending entries does to them.
 -- Assumes nothing.
-use Prim.Native.Nat.{ℕ, suc, _≤_}
+use Prim.Native.Nat.{ℕ, suc, _≤_, zero, _+_}
 use native.Mathlib.Omega.{arith}
 use mathlib.Core.Bool.{Bool, true, false, _&&_}
-use mathlib.Core.Path.{_≡_, refl, ap}
-use mathlib.Core.List.{List, [], _∷_, map}
+use mathlib.Core.Path.{_≡_, refl, ap, sym, _∙_}
+use mathlib.Core.List.{List, [], _∷_, map, _++_, append-assoc}
 use lib.Dec.{eqb}
-use lib.ListN.{length}
-use Rattle.model.specs.Basic.{keep, those, all}
+use lib.ListN.{length, take, set}
+use lib.Seq.{sets}
+use Rattle.model.specs.Basic.{keep, those, all, flatMap}
 use Rattle.model.specs.declared.Entry.{Entry}
 use Rattle.model.specs.Entry.{before, placed, enter, endOne, endThose, endedAt}
 
@@ -66,3 +67,35 @@ shorter f u (e ∷ es) = at (f e) (eqb (e .start) u) (shorter f u es)
     at false c ih = omega arith
     at true true ih = omega arith
     at true false ih = omega arith
+
+pub few-those : {A : Type 0} (f : A → Bool) (xs : List A) → length (those f xs) ≤ length xs
+few-those f [] = omega arith
+few-those f (x ∷ xs) = at (f x) (few-those f xs)
+  where
+    at : (b : Bool) → length (those f xs) ≤ length xs → length (keep b x (those f xs)) ≤ suc (length xs)
+    at true ih = omega arith
+    at false ih = omega arith
+
+pub length-enter : (e : Entry) (es : List Entry) → length (enter e es) ≡ suc (length es)
+length-enter e [] = refl
+length-enter e (x ∷ xs) = at (before e x) (length-enter e xs)
+  where
+    at : (b : Bool) → length (enter e xs) ≡ suc (length xs) → length (placed b e x xs (enter e xs)) ≡ suc (suc (length xs))
+    at true ih = refl
+    at false ih = ap suc ih
+
+-- ---- lists joined, cut and written over
+
+pub take-map : {A B : Type 0} (f : A → B) (n : ℕ) (xs : List A) → take n (map f xs) ≡ map f (take n xs)
+take-map f zero xs = refl
+take-map f (suc n) [] = refl
+take-map f (suc n) (x ∷ xs) = ap (λ (ys : List _). f x ∷ ys) (take-map f n xs)
+
+pub flat-append : {A B : Type 0} (f : A → List B) (xs ys : List A) → flatMap f (xs ++ ys) ≡ flatMap f xs ++ flatMap f ys
+flat-append f [] ys = refl
+flat-append f (x ∷ xs) ys = ap (λ (zs : List _). f x ++ zs) (flat-append f xs ys) ∙ sym (append-assoc (f x) (flatMap f xs) (flatMap f ys))
+
+pub sets-append : (ns : List ℕ) (i : ℕ) (us vs : List ℕ) → sets ns i (us ++ vs) ≡ sets (sets ns i us) (i + length us) vs
+sets-append ns i [] vs = let e : i + 0 ≡ i = omega arith in rw e
+sets-append ns i (u ∷ us) vs =
+    let e : i + suc (length us) ≡ suc i + length us = omega arith in rw e (sets-append (set ns i u) (suc i) us vs)

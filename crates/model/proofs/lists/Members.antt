@@ -10,6 +10,7 @@ use lib.Dec.{T, eqb}
 use lib.ListN.{length, getD}
 use borrow.Author.Tests.{eqb-true, eqb-false, eq-eqb}
 use Rattle.model.specs.Basic.{keep, those, all, has, count}
+use Rattle.model.specs.Inner.{In}
 use Rattle.model.proofs.lists.Lists.{both-intro, all-cons}
 
 pub holds-true : (b : Bool) → T b → b ≡ true
@@ -44,10 +45,6 @@ bool-cases true = inl refl
 bool-cases false = inr refl
 
 module _ {A : Type 0} where
-  abbrev pub In : A → List A → Type 0
-  In a [] = ⊥
-  In a (x ∷ xs) = (a ≡ x) ⊎ In a xs
-
   pub in-left : (a : A) (xs ys : List A) → In a xs → In a (xs ++ ys)
   in-left a [] ys i = absurd i
   in-left a (x ∷ xs) ys (inl e) = inl e

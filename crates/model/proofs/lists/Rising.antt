@@ -71,9 +71,13 @@ before-carries d e f p q = at (either-true (ltb (d .key) (e .key)) _ p) (either-
     at : (ltb (d .key) (e .key) ≡ true) ⊎ ((eqb (d .key) (e .key) && ltb (d .start) (e .start)) ≡ true)
         → (ltb (e .key) (f .key) ≡ true) ⊎ ((eqb (e .key) (f .key) && ltb (e .start) (f .start)) ≡ true) → before d f ≡ true
     at (inl a) (inl b) = keys (omega (arith, ltb-true (d .key) (e .key) a, ltb-true (e .key) (f .key) b))
-    at (inl a) (inr b) = keys (omega (arith, ltb-true (d .key) (e .key) a, eqb-true (e .key) (f .key) (both-true (eqb (e .key) (f .key)) _ b .0)))
-    at (inr a) (inl b) = keys (omega (arith, eqb-true (d .key) (e .key) (both-true (eqb (d .key) (e .key)) _ a .0), ltb-true (e .key) (f .key) b))
+    at (inl a) (inr b) =
+        keys (omega (arith, ltb-true (d .key) (e .key) a, eqb-true (e .key) (f .key) (both-true (eqb (e .key) (f .key)) _ b .0)))
+    at (inr a) (inl b) =
+        keys (omega (arith, eqb-true (d .key) (e .key) (both-true (eqb (d .key) (e .key)) _ a .0), ltb-true (e .key) (f .key) b))
     at (inr a) (inr b) =
         let (k, s) = both-true (eqb (d .key) (e .key)) (ltb (d .start) (e .start)) a in
         let (m, t) = both-true (eqb (e .key) (f .key)) (ltb (e .start) (f .start)) b in
-        either-right (ltb (d .key) (f .key)) _ (both-intro _ _ (eq-eqb (d .key) (f .key) (eqb-true (d .key) (e .key) k ∙ eqb-true (e .key) (f .key) m)) (less-carries (d .start) (e .start) (f .start) s t))
+        either-right (ltb (d .key) (f .key)) _
+        (both-intro _ _ (eq-eqb (d .key) (f .key) (eqb-true (d .key) (e .key) k ∙ eqb-true (e .key) (f .key) m))
+        (less-carries (d .start) (e .start) (f .start) s t))

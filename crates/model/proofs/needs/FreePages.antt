@@ -20,8 +20,10 @@ use Rattle.model.specs.Rules
 use Rattle.model.specs.Rules.{retire, usable, Parts, one, two, routersTo, Rebuilt, rebuilt, short}
 use Rattle.model.specs.Needs.{fills, actives}
 use Rattle.model.specs.Layout.{bit}
-use Rattle.model.proofs.lists.Members.{In, in-append, in-those}
-use Rattle.model.proofs.tree.Shows.{same?, in-list}
+use Rattle.model.specs.Inner.{In}
+use Rattle.model.proofs.lists.Members.{in-append, in-those}
+use Rattle.model.proofs.lists.Bools.{same?}
+use Rattle.model.proofs.tree.Shows.{in-list}
 use Rattle.model.proofs.tree.GroupShows.{Apart}
 use Rattle.model.proofs.tree.GroupPages.{values, in-frees}
 use Rattle.model.proofs.tree.Numbers.{frees-all}
@@ -40,9 +42,15 @@ from-set : (k : ℕ) (ps : List Page) (n : ℕ) (q : Page) → n < length ps
 from-set k [] n q h = absurd (omega arith)
 from-set k (p ∷ ps) zero q h = omega (arith, count-keep (isFree q) k (freeFrom (suc k) ps), count-keep (isFree p) k (freeFrom (suc k) ps))
 from-set k (p ∷ ps) (suc n) q h =
-    omega (arith, count-keep (isFree p) k (freeFrom (suc k) (set ps n q)), count-keep (isFree p) k (freeFrom (suc k) ps), from-set (suc k) ps n q (omega arith))
+    omega (
+      arith,
+      count-keep (isFree p) k (freeFrom (suc k) (set ps n q)),
+      count-keep (isFree p) k (freeFrom (suc k) ps),
+      from-set (suc k) ps n q (omega arith),
+    )
 
-pub frees-set : (ps : List Page) (n : ℕ) (q : Page) → 5 ≤ n → n < length ps → frees (set ps n q) + bit (isFree (page ps n)) ≡ frees ps + bit (isFree q)
+pub frees-set : (ps : List Page) (n : ℕ) (q : Page) → 5 ≤ n → n < length ps
+    → frees (set ps n q) + bit (isFree (page ps n)) ≡ frees ps + bit (isFree q)
 frees-set ps n q five h =
     let e : n ≡ 5 + (n - 5) = omega arith in
     subst (λ (m : ℕ). frees (set ps m q) + bit (isFree (page ps m)) ≡ frees ps + bit (isFree q)) (sym e)
@@ -65,17 +73,21 @@ gone-free w l p e = at (active w p)
 
 module _ (w : ℕ) where
   -- free pages stay free while a group retires, and its active pages become free
-  pub retire-free : (rs : List Pair) (ps : List Page) (n : ℕ) → n < length ps → isFree (page ps n) ≡ true → isFree (page (retire w ps rs) n) ≡ true
+  pub retire-free : (rs : List Pair) (ps : List Page) (n : ℕ) → n < length ps → isFree (page ps n) ≡ true
+      → isFree (page (retire w ps rs) n) ≡ true
   retire-free [] ps n h f = f
-  retire-free (r ∷ rs) ps n h f = retire-free rs _ n (omega (arith, length-set ps (r .value) (gone w (page ps (r .value))))) (at (same? n (r .value)))
+  retire-free (r ∷ rs) ps n h f =
+      retire-free rs _ n (omega (arith, length-set ps (r .value) (gone w (page ps (r .value))))) (at (same? n (r .value)))
     where
       at : (n ≡ r .value) ⊎ (n ≢ r .value) → isFree (page (set ps (r .value) (gone w (page ps (r .value)))) n) ≡ true
       at (inl e) =
           subst (λ (m : ℕ). isFree (page (set ps (r .value) (gone w (page ps (r .value)))) m) ≡ true) (sym e)
-          (ap isFree (getD-set-same ps (r .value) (gone w (page ps (r .value))) free (omega arith)) ∙ free-gone w (page ps (r .value)) (ap (λ (m : ℕ). isFree (page ps m)) (sym e) ∙ f))
+          (ap isFree (getD-set-same ps (r .value) (gone w (page ps (r .value))) free (omega arith))
+          ∙ free-gone w (page ps (r .value)) (ap (λ (m : ℕ). isFree (page ps m)) (sym e) ∙ f))
       at (inr d) = ap isFree (getD-set-other ps (r .value) n (gone w (page ps (r .value))) free d) ∙ f
 
-  pub retire-active : (rs : List Pair) (ps : List Page) (n : ℕ) → n < length ps → In n (values rs) → active w (page ps n) ≡ true → isFree (page (retire w ps rs) n) ≡ true
+  pub retire-active : (rs : List Pair) (ps : List Page) (n : ℕ) → n < length ps → In n (values rs) → active w (page ps n) ≡ true
+      → isFree (page (retire w ps rs) n) ≡ true
   retire-active [] ps n h i a = absurd i
   retire-active (r ∷ rs) ps n h i a = at (same? n (r .value)) i (λ k j b. retire-active rs _ n k j b)
     where
@@ -86,11 +98,13 @@ module _ (w : ℕ) where
       inn = omega (arith, length-set ps (r .value) (gone w (page ps (r .value))))
 
       at : (n ≡ r .value) ⊎ (n ≢ r .value) → (n ≡ r .value) ⊎ In n (values rs)
-          → (n < length qs → In n (values rs) → active w (page qs n) ≡ true → isFree (page (retire w qs rs) n) ≡ true) → isFree (page (retire w qs rs) n) ≡ true
+          → (n < length qs → In n (values rs) → active w (page qs n) ≡ true → isFree (page (retire w qs rs) n) ≡ true)
+          → isFree (page (retire w qs rs) n) ≡ true
       at (inl e) j ih =
           let b : active w (page ps (r .value)) ≡ true = ap (λ (m : ℕ). active w (page ps m)) (sym e) ∙ a in
           retire-free rs qs n inn (subst (λ (m : ℕ). isFree (page qs m) ≡ true) (sym e)
-          (ap isFree (getD-set-same ps (r .value) (gone w (page ps (r .value))) free (omega arith)) ∙ ap (λ (c : Bool). isFree (goneIf c w (page ps (r .value)))) b))
+          (ap isFree (getD-set-same ps (r .value) (gone w (page ps (r .value))) free (omega arith))
+          ∙ ap (λ (c : Bool). isFree (goneIf c w (page ps (r .value)))) b))
       at (inr d) (inl e) ih = absurd (d e)
       at (inr d) (inr j) ih = ih inn j (ap (active w) (getD-set-other ps (r .value) n (gone w (page ps (r .value))) free d) ∙ a)
 
@@ -109,7 +123,8 @@ module _ (w : ℕ) where
 
   module _ (l : ℕ) (ps : List Page) where
     -- one page goes
-    gone-count : (qs : List Page) (n : ℕ) → page qs n ≡ page ps n → length qs ≡ length ps → GroupMember l ps n → frees (set qs n (gone w (page qs n))) ≡ bit (active w (page ps n)) + frees qs
+    gone-count : (qs : List Page) (n : ℕ) → page qs n ≡ page ps n → length qs ≡ length ps → GroupMember l ps n
+        → frees (set qs n (gone w (page qs n))) ≡ bit (active w (page ps n)) + frees qs
     gone-count qs n e k m =
         let level : page qs n .level ≡ suc l = ap (λ (p : Page). p .level) e ∙ m .level in
         let used : isFree (page qs n) ≡ false = ne-eqb (page qs n .level) 0 (λ (z : page qs n .level ≡ 0). omega arith) in
@@ -133,7 +148,8 @@ module _ (w : ℕ) where
         omega (
           arith,
           gone-count ps (r .value) refl refl m,
-          gone-count qs (q .value) (getD-set-other ps (r .value) (q .value) (gone w (page ps (r .value))) free d) (length-set ps (r .value) (gone w (page ps (r .value)))) k,
+          gone-count qs (q .value) (getD-set-other ps (r .value) (q .value) (gone w (page ps (r .value))) free d)
+              (length-set ps (r .value) (gone w (page ps (r .value)))) k,
           two-more (active w (page ps (r .value))) (active w (page ps (q .value))) (r .value) (q .value),
         )
 
@@ -183,7 +199,8 @@ module _ (w : ℕ) where
     apart-one true n e = first-apart n (freeOnes ps) e zero-free
     apart-one false n e = apart-free
 
-    apart-two : (a b : Bool) (n m : ℕ) → page ps n .level ≡ suc l → page ps m .level ≡ suc l → m ≢ n → Apart (keep a n (keep b m []) ++ freeOnes ps)
+    apart-two : (a b : Bool) (n m : ℕ) → page ps n .level ≡ suc l → page ps m .level ≡ suc l → m ≢ n
+        → Apart (keep a n (keep b m []) ++ freeOnes ps)
     apart-two true true n m e f d = λ (s : n ≡ m). d (sym s)
     apart-two true false n m e f d = first-apart n (freeOnes ps) e zero-free
     apart-two false b n m e f d = apart-one b m f
@@ -191,7 +208,8 @@ module _ (w : ℕ) where
     usable-apart : {rs : List Pair} → Pages l ps rs → Apart (usable w ps rs)
     unfolding Rules.usable
     usable-apart (lone {r} m) = apart-one (active w (page ps (r .value))) (r .value) (m .level)
-    usable-apart (twin {r} {q} m k d) = apart-two (active w (page ps (r .value))) (active w (page ps (q .value))) (r .value) (q .value) (m .level) (k .level) d
+    usable-apart (twin {r} {q} m k d) =
+        apart-two (active w (page ps (r .value))) (active w (page ps (q .value))) (r .value) (q .value) (m .level) (k .level) d
 
 -- how many pages the parts are
 abbrev pub sizeOf : Parts → ℕ
@@ -212,10 +230,13 @@ Counted rs x ns (rebuilt qs news) = (frees qs + sizeOf x ≡ length ns) × (news
 Counted rs x ns short = length ns < sizeOf x
 
 module _ (w l level : ℕ) (ps : List Page) (rs : List Pair) (up : level ≡ suc l) where
-  filled-count : (qs : List Page) (n : ℕ) (x : List Pair) → 5 ≤ n → n < length qs → isFree (page qs n) ≡ true → frees (set qs n (filled w level x)) + 1 ≡ frees qs
-  filled-count qs n x five h f = omega (arith, frees-set qs n (filled w level x) five h, ap bit f, ap bit (ne-eqb level 0 (λ (z : level ≡ 0). omega arith)))
+  filled-count : (qs : List Page) (n : ℕ) (x : List Pair) → 5 ≤ n → n < length qs → isFree (page qs n) ≡ true
+      → frees (set qs n (filled w level x)) + 1 ≡ frees qs
+  filled-count qs n x five h f =
+      omega (arith, frees-set qs n (filled w level x) five h, ap bit f, ap bit (ne-eqb level 0 (λ (z : level ≡ 0). omega arith)))
 
-  counted-by : (x : Parts) (ns : List ℕ) → ((n : ℕ) → In n ns → Usable w l ps rs n) → Apart ns → frees (retire w ps rs) ≡ length ns → Counted rs x ns (Rules.rebuildWith w level ps rs x ns)
+  counted-by : (x : Parts) (ns : List ℕ) → ((n : ℕ) → In n ns → Usable w l ps rs n) → Apart ns → frees (retire w ps rs) ≡ length ns
+      → Counted rs x ns (Rules.rebuildWith w level ps rs x ns)
   unfolding Rules.rebuildWith Rules.routersTo
   counted-by (one x) [] u d e = omega arith
   counted-by (one x) (n ∷ ns) u d e =
@@ -231,13 +252,16 @@ module _ (w l level : ℕ) (ps : List Page) (rs : List Pair) (up : level ≡ suc
       let other : page S m ≡ page R m = getD-set-other R n m (filled w level x) free (λ (z : m ≡ n). d (sym z)) in
       let first : frees S + 1 ≡ frees R = filled-count R n x (a .five) (omega (arith, length-retire w rs ps, a .in-pages)) (a .is-free) in
       let second : frees (set S m (filled w level y)) + 1 ≡ frees S
-      = filled-count S m y (b .five) (omega (arith, length-set R n (filled w level x), length-retire w rs ps, b .in-pages)) (ap isFree other ∙ b .is-free) in
+      = filled-count S m y (b .five) (omega (arith, length-set R n (filled w level x), length-retire w rs ps, b .in-pages))
+      (ap isFree other ∙ b .is-free) in
       (omega arith, refl)
 
-  pub rebuilt-counts : (least : ℕ) (us : List Pair) → Pages w l ps rs → Counted rs (Rules.parts least us) (usable w ps rs) (Rules.rebuild least w level ps (record { routers = rs; pairs = us }))
+  pub rebuilt-counts : (least : ℕ) (us : List Pair) → Pages w l ps rs
+      → Counted rs (Rules.parts least us) (usable w ps rs) (Rules.rebuild least w level ps (record { routers = rs; pairs = us }))
   unfolding Rules.rebuild
   rebuilt-counts least us g =
-      counted-by (Rules.parts least us) (usable w ps rs) (usable-free w l ps g) (usable-apart w l ps g) (retire-count w l ps g ∙ sym (usable-count w l ps rs))
+      counted-by (Rules.parts least us) (usable w ps rs) (usable-free w l ps g) (usable-apart w l ps g)
+      (retire-count w l ps g ∙ sym (usable-count w l ps rs))
 
 -- ---- the pages that a page on the way gathers
 
@@ -263,11 +287,13 @@ module _ (least u : ℕ) where
     own-member : GroupMember w l ps (a .own .value)
     own-member = record { level = s .own .level; five = h .own }
 
-    near-pages : (want : List Pair) (x y : Option Pair) → Next least u l ps (a .own .value) x → Next least u l ps (a .own .value) y → HighNext x → HighNext y
+    near-pages : (want : List Pair) (x y : Option Pair) → Next least u l ps (a .own .value) x → Next least u l ps (a .own .value) y
+        → HighNext x → HighNext y
         → Pages w l ps (Rules.withNeighbour w ps a want x y .routers)
     unfolding Rules.withNeighbour
     near-pages want x (some r) p q m n = twin own-member (record { level = q .0 .level; five = n }) (q .1)
-    near-pages want (some r) none p q m n = twin (record { level = p .0 .level; five = m }) own-member (λ (e : a .own .value ≡ r .value). p .1 (sym e))
+    near-pages want (some r) none p q m n =
+        twin (record { level = p .0 .level; five = m }) own-member (λ (e : a .own .value ≡ r .value). p .1 (sym e))
     near-pages want none none p q m n = lone own-member
 
     pub gather-pages : (b : Bool) (want : List Pair) → Pages w l ps (Rules.gatherBy b w ps a want .routers)

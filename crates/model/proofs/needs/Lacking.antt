@@ -1,5 +1,6 @@
 -- `lacking`: an update gives 12 exactly when the rules need a page and none is free, 13 exactly when they need a slot past the last.
--- What it is to need a page or a slot stands in specs/Needs. `lacking` says it of insert and delete on a sound store, `lacking-lent` of the calls on any bytes lent.
+-- What it is to need a page or a slot stands in specs/Needs. `lacking` says it of insert and delete on a sound store, `lacking-lent` of the
+-- calls on any bytes lent.
 -- Assumes nothing.
 use Prim.Native.Nat.{ℕ, zero, suc, _*_, _≤_, _<_}
 use native.Mathlib.Omega.{arith}
@@ -28,7 +29,8 @@ use Rattle.model.specs.Judged
 use Rattle.model.specs.Judged.{lengthOk, magicOk, editionOk, brokenIn, judged, verdict, ruled}
 use Rattle.model.specs.Lent
 use Rattle.model.specs.Lent.{left, judgedFirst}
-use Rattle.model.specs.Needs.{Short, takesInPlace, groupAt, goes, rootGroup, PageNeeded, here, above, root, top, NeedsPage, hasSlot, NeedsSlot, inserting, deleting, InsertTried, DeleteTried, Lacks, LacksLent}
+use Rattle.model.specs.Needs.{Short, takesInPlace, groupAt, goes, rootGroup, PageNeeded, here, above, root, top, NeedsPage, hasSlot}
+use Rattle.model.specs.Needs.{NeedsSlot, inserting, deleting, InsertTried, DeleteTried, Lacks, LacksLent}
 use Rattle.model.proofs.lists.Members.{holds-true, true-holds, not-both, bool-cases}
 use Rattle.model.proofs.sound.ByRule.{from-tests}
 use Rattle.model.proofs.sound.Judging.{accepted}
@@ -96,7 +98,8 @@ module _ (least w r : ℕ) (ps : List Page) (c : Change) where
   top-page = page ps r
 
   -- a root that does not go
-  stay-unless : (b : Bool) (want : List Pair) → (b && eqb (length want) 1) ≡ false → Climb.rootGo least b w ps r c top-page want ≡ Climb.rootStay least (roomy least w c top-page) w ps r c top-page
+  stay-unless : (b : Bool) (want : List Pair) → (b && eqb (length want) 1) ≡ false
+      → Climb.rootGo least b w ps r c top-page want ≡ Climb.rootStay least (roomy least w c top-page) w ps r c top-page
   unfolding Climb.rootGo
   stay-unless true [] h = refl
   stay-unless true (x ∷ []) h = absurd (not-both true refl h)
@@ -108,7 +111,8 @@ module _ (least w r : ℕ) (ps : List Page) (c : Change) where
   unfolding Climb.rootGo
   going true [] h e = not-both false h refl
   going true (x ∷ []) h e = moves-lacks e
-  going true (x ∷ y ∷ zs) h e = not-both (eqb (suc (suc (length zs))) 1) h (ne-eqb (suc (suc (length zs))) 1 (λ (z : suc (suc (length zs)) ≡ 1). omega arith))
+  going true (x ∷ y ∷ zs) h e =
+      not-both (eqb (suc (suc (length zs))) 1) h (ne-eqb (suc (suc (length zs))) 1 (λ (z : suc (suc (length zs)) ≡ 1). omega arith))
   going false want h e = not-both false h refl
 
   crown : (qs : List Page) (news : List Pair) → Climb.topped w (top-page .level) qs news (freeOnes qs) ≡ lacks → freeOnes qs ≡ []
@@ -123,8 +127,10 @@ module _ (least w r : ℕ) (ps : List Page) (c : Change) where
   group = rootGroup w ps r c
 
   module _ (stays-not : goes w c top-page ≡ false) (full : roomy least w c top-page ≡ false) where
-    anew : (x : Parts) (ns : List ℕ) → rebuild least w (top-page .level) ps group ≡ Rules.rebuildWith w (top-page .level) ps (group .routers) x ns
-        → Climb.newRoot w (top-page .level) (Rules.rebuildWith w (top-page .level) ps (group .routers) x ns) ≡ lacks → PageNeeded least w r [] c ps
+    anew : (x : Parts) (ns : List ℕ) → rebuild least w (top-page .level) ps group
+        ≡ Rules.rebuildWith w (top-page .level) ps (group .routers) x ns
+        → Climb.newRoot w (top-page .level) (Rules.rebuildWith w (top-page .level) ps (group .routers) x ns) ≡ lacks
+        → PageNeeded least w r [] c ps
     unfolding Climb.newRoot Rules.rebuildWith
     anew (one x) [] f e = root stays-not full (short-is least w (top-page .level) ps group .0 f)
     anew (one x) (n ∷ ns) f e = absurd (moves-lacks e)
@@ -132,7 +138,8 @@ module _ (least w r : ℕ) (ps : List Page) (c : Change) where
     anew (two x y) (n ∷ []) f e = root stays-not full (short-is least w (top-page .level) ps group .0 f)
     anew (two x y) (n ∷ m ∷ ns) f e = top stays-not full f (crown _ _ e)
 
-  staying : (b : Bool) → roomy least w c top-page ≡ b → goes w c top-page ≡ false → Climb.rootStay least b w ps r c top-page ≡ lacks → PageNeeded least w r [] c ps
+  staying : (b : Bool) → roomy least w c top-page ≡ b → goes w c top-page ≡ false → Climb.rootStay least b w ps r c top-page ≡ lacks
+      → PageNeeded least w r [] c ps
   unfolding Climb.rootStay Rules.rebuild
   staying true t g e = absurd (stays-lacks e)
   staying false t g e = anew g t (Rules.parts least (group .pairs)) (Rules.usable w ps (group .routers)) refl e
@@ -154,7 +161,8 @@ module _ (least w r : ℕ) where
   climb-needs (a ∷ up) c ps e = at (work least w ps a c) refl e (λ d qs. climb-needs up d qs)
     where
       at : (x : Worked) → work least w ps a c ≡ x → goOn x (λ (d : Change) (qs : List Page). climb least w r up d qs) ≡ lacks
-          → ((d : Change) (qs : List Page) → climb least w r up d qs ≡ lacks → PageNeeded least w r up d qs) → PageNeeded least w r (a ∷ up) c ps
+          → ((d : Change) (qs : List Page) → climb least w r up d qs ≡ lacks → PageNeeded least w r up d qs)
+          → PageNeeded least w r (a ∷ up) c ps
       at (settled qs) f e ih = absurd (stays-lacks e)
       at (upward d qs) f e ih = above f (ih d qs e)
       at Rules.lacking f e ih = let h = work-lacks least w ps a c .0 f in here (h .moved) (h .few)
@@ -163,7 +171,8 @@ module _ (least w r : ℕ) where
   unfolding Climb.climb Climb.workRoot Climb.rootStay Climb.newRoot Climb.topped
   needs-climb (here {a} {up} {c} {ps} t f) = rw (work-lacks least w ps a c .1 (record { moved = t; few = f }))
   needs-climb (above e n) = rw e (needs-climb n)
-  needs-climb (root {c} {ps} g t f) = stay-unless least w r ps c _ _ g ∙ rw (t, short-is least w (page ps r .level) ps (rootGroup w ps r c) .1 f)
+  needs-climb (root {c} {ps} g t f) =
+      stay-unless least w r ps c _ _ g ∙ rw (t, short-is least w (page ps r .level) ps (rootGroup w ps r c) .1 f)
   needs-climb (top {c} {ps} g t e n) = stay-unless least w r ps c _ _ g ∙ rw (t, e, n)
 
   -- the climb lacks a page exactly when one is needed and none is free
@@ -205,11 +214,13 @@ module _ (least : ℕ) (s : Store) where
     neither true b e = absurd (not-both true refl e)
     neither false b e = (refl, e)
 
-    thirteen : (k : ℕ) (c : Change) (x : Rooted) → climb least (next s) (rootAt (s .slots) (next s)) (way s (next s) k) c (s .pages) ≡ x → rooted least s x ≡ refused 13 → NeedsSlot least s k c
+    thirteen : (k : ℕ) (c : Change) (x : Rooted) → climb least (next s) (rootAt (s .slots) (next s)) (way s (next s) k) c (s .pages) ≡ x
+        → rooted least s x ≡ refused 13 → NeedsSlot least s k c
     unfolding Climb.rooted
     thirteen k c (stays qs) f e = let z : _≡_ {A = ℕ} 0 1 = cc in absurd (omega arith)
     thirteen k c (moves n qs) f e =
-        let (no-slot, full) = neither (hasSlot s) (ltb (length (s .slots)) most) (sym (slot-left (next s) n most (s .slots) few) ∙ slotted-thirteen _ _ qs e) in
+        let (no-slot, full) = neither (hasSlot s) (ltb (length (s .slots)) most)
+        (sym (slot-left (next s) n most (s .slots) few) ∙ slotted-thirteen _ _ qs e) in
         record { root = n; pages = qs; new = f; none = no-slot; full = omega (arith, ltb-false (length (s .slots)) most full) }
     thirteen k c lacks f e = let z : _≡_ {A = ℕ} 12 13 = cc in absurd (omega arith)
 
@@ -233,7 +244,8 @@ late n [] r o e = (refl, e)
 late n (x ∷ xs) r o e = at (x .holds) e (λ f. late n xs r (o .1) f)
   where
     at : (b : Bool) → elim b as (λ z. Result) [ true ↦ refused (x .number) | false ↦ numbered xs r ] ≡ refused n
-        → (numbered xs r ≡ refused n → (firstOf xs ≡ 0) × (r ≡ refused n)) → (_≡_ {A = ℕ} (elim b [ true ↦ x .number | false ↦ firstOf xs ]) 0) × (r ≡ refused n)
+        → (numbered xs r ≡ refused n → (firstOf xs ≡ 0) × (r ≡ refused n))
+        → (_≡_ {A = ℕ} (elim b [ true ↦ x .number | false ↦ firstOf xs ]) 0) × (r ≡ refused n)
     at true e ih = absurd (o .0 cc)
     at false e ih = ih e
 
@@ -303,18 +315,22 @@ module _ (least : ℕ) (b : List ℕ) where
   left-gives n h (done t) = (λ e. absurd (omega arith), λ e. let z : _≡_ {A = ℕ} 0 1 = cc in absurd (omega arith))
   left-gives n h (refused m) = (λ e. ap refused e, λ e. cc)
 
-  lent-gives : (n : ℕ) → 5 ≤ n → (f : Store → Result) → Lent.lent least f b .number ≡ n ↔ ((judged least b .number ≡ 0) × (f (decode least b) ≡ refused n))
+  lent-gives : (n : ℕ) → 5 ≤ n → (f : Store → Result)
+      → Lent.lent least f b .number ≡ n ↔ ((judged least b .number ≡ 0) × (f (decode least b) ≡ refused n))
   unfolding Lent.lent
   lent-gives n h f = at (judged least b .number) judged-low
     where
-      at : (m : ℕ) → m ≤ 4 → judgedFirst m (λ i. record { number = i; store = b }) (left least b (f (decode least b))) .number ≡ n ↔ ((m ≡ 0) × (f (decode least b) ≡ refused n))
+      at : (m : ℕ) → m ≤ 4 → judgedFirst m (λ i. record { number = i; store = b }) (left least b (f (decode least b))) .number ≡ n
+          ↔ ((m ≡ 0) × (f (decode least b) ≡ refused n))
       at zero l = let g = left-gives n h (f (decode least b)) in (λ e. (refl, g .0 e), λ e. g .1 (e .1))
       at (suc m) l = (λ e. absurd (omega arith), λ e. absurd (omega (arith, e .0)))
 
-  judged-both : {A B C : Type 0} → (judged least b .number ≡ 0 → B ↔ C) → A ↔ ((judged least b .number ≡ 0) × B) → A ↔ ((judged least b .number ≡ 0) × C)
+  judged-both : {A B C : Type 0} → (judged least b .number ≡ 0 → B ↔ C) → A ↔ ((judged least b .number ≡ 0) × B)
+      → A ↔ ((judged least b .number ≡ 0) × C)
   judged-both g f = (λ a. let (j, x) = f .0 a in (j, g j .0 x), λ c. f .1 (c .0, g (c .0) .1 (c .1)))
 
-  -- For any bytes lent: 12 exactly when they are accepted, no smaller number is due, and the rules need a page and none is free; 13 so for a slot past the last.
+  -- For any bytes lent: 12 exactly when they are accepted, no smaller number is due, and the rules need a page and none is free; 13 so for
+  -- a slot past the last.
   pub lacking-lent : LacksLent least b
   unfolding Lent.insertLent Lent.deleteLent
   lacking-lent = record {

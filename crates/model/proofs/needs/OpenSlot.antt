@@ -37,7 +37,8 @@ module _ (w : ℕ) where
   fewer [] h = absurd (not-both false h refl)
   fewer (x ∷ xs) h = at (is x) h (fewer xs)
     where
-      at : (b : Bool) → (b || any is xs) ≡ true → (any is xs ≡ true → length (those other xs) < length xs) → length (keep (not b) x (those other xs)) < suc (length xs)
+      at : (b : Bool) → (b || any is xs) ≡ true → (any is xs ≡ true → length (those other xs) < length xs)
+          → length (keep (not b) x (those other xs)) < suc (length xs)
       at true h ih = omega (arith, fewer-or-same xs)
       at false h ih = omega (arith, ih h)
 
@@ -51,7 +52,8 @@ module _ (w : ℕ) where
       at false h ih = ap (λ (ys : List Slot). x ∷ ys) (ih h)
 
   -- a new root finds a slot if its version has one or not all are taken
-  pub slot-left : (n most : ℕ) (xs : List Slot) → length xs ≤ most → leb (length (putSlot w n xs)) most ≡ (any is xs || ltb (length xs) most)
+  pub slot-left : (n most : ℕ) (xs : List Slot) → length xs ≤ most
+      → leb (length (putSlot w n xs)) most ≡ (any is xs || ltb (length xs) most)
   unfolding Climb.putSlot
   slot-left n most xs h = rw (length-append (those other xs) (record { version = w; root = n } ∷ [])) (at (any is xs) refl)
     where
@@ -64,7 +66,8 @@ module _ (w : ℕ) where
           by false z = lt-leb (length xs + 1) most (omega (arith, ltb-false (length xs) most z))
 
   -- versions rise and none is above w: the slot of w is the last one
-  pub last-slot : (n : ℕ) (xs : List Slot) → length xs ≡ suc n → inOrder bySlot xs ≡ true → all (λ (x : Slot). leb (x .version) w) xs ≡ true → any is xs ≡ eqb (getD xs n noSlot .version) w
+  pub last-slot : (n : ℕ) (xs : List Slot) → length xs ≡ suc n → inOrder bySlot xs ≡ true → all (λ (x : Slot). leb (x .version) w) xs ≡ true
+      → any is xs ≡ eqb (getD xs n noSlot .version) w
   last-slot n [] e o h = absurd (omega arith)
   last-slot zero (x ∷ []) e o h = at (is x)
     where
@@ -85,13 +88,15 @@ module _ (w : ℕ) where
   unfolding Climb.putSlot
   put-new n xs h = ap (λ (ys : List Slot). ys ++ (record { version = w; root = n } ∷ [])) (all-other xs h)
 
-  pub put-over : (n i : ℕ) (xs : List Slot) → length xs ≡ suc i → inOrder bySlot xs ≡ true → all (λ (x : Slot). leb (x .version) w) xs ≡ true → any is xs ≡ true
+  pub put-over : (n i : ℕ) (xs : List Slot) → length xs ≡ suc i → inOrder bySlot xs ≡ true
+      → all (λ (x : Slot). leb (x .version) w) xs ≡ true → any is xs ≡ true
       → putSlot w n xs ≡ set xs i (record { version = w; root = n })
   unfolding Climb.putSlot
   put-over n i [] e o h a = absurd (omega arith)
   put-over n zero (x ∷ []) e o h a = at (is x) a
     where
-      at : (b : Bool) → (b || false) ≡ true → keep (not b) x [] ++ (record { version = w; root = n } ∷ []) ≡ record { version = w; root = n } ∷ []
+      at : (b : Bool) → (b || false) ≡ true → keep (not b) x [] ++ (record { version = w; root = n } ∷ [])
+          ≡ record { version = w; root = n } ∷ []
       at true z = refl
       at false z = absurd (not-both false z refl)
   put-over n (suc i) (x ∷ []) e o h a = absurd (omega arith)

@@ -18,17 +18,10 @@ use Rattle.model.specs.Walk.{Around, around, rootAt, heightOf, wayDown, 
 use Rattle.model.specs.Rules
 use Rattle.model.specs.Rules.{Parts, one, two, samePair, routersTo, exchange}
 use Rattle.model.specs.Needs.{actives, groupAt}
-use Rattle.model.proofs.tree.Edit.{length-enter}
-use Rattle.model.proofs.sound.ByRule.{Sound}
+use Rattle.model.specs.ByRule.{Sound}
+use Rattle.model.proofs.tree.Edit.{length-enterPair}
 use Rattle.model.proofs.sound.Ready.{root-used, root-level}
-
-pub few-those : {A : Type 0} (f : A → Bool) (xs : List A) → length (those f xs) ≤ length xs
-few-those f [] = omega arith
-few-those f (x ∷ xs) = at (f x) (few-those f xs)
-  where
-    at : (b : Bool) → length (those f xs) ≤ length xs → length (keep b x (those f xs)) ≤ suc (length xs)
-    at true ih = omega arith
-    at false ih = omega arith
+use Rattle.model.proofs.lists.Lists.{few-those}
 
 -- the pairs alive are no more than the entries
 pub pairs-few : (v : ℕ) (p : Page) → length (pairsAt v p) ≤ length (p .entries)
@@ -36,7 +29,7 @@ pairs-few v p = omega (arith, length-map (those (liveAt v) (p .entries)) pairOf,
 
 length-enterAll : (xs ps : List Pair) → length (enterAll xs ps) ≡ length xs + length ps
 length-enterAll [] ps = omega arith
-length-enterAll (x ∷ xs) ps = omega (arith, length-enterAll xs (enterPair x ps), length-enter x ps)
+length-enterAll (x ∷ xs) ps = omega (arith, length-enterAll xs (enterPair x ps), length-enterPair x ps)
 
 -- a wanted list
 pub wanted-few : (w : ℕ) (c : Change) (p : Page) → length (wanted w c p) ≤ length (c .take) + length (p .entries)
@@ -46,19 +39,23 @@ wanted-few w c p =
 
 -- what is gathered: fewer than 7 * least
 module _ (least w : ℕ) (twice : 2 ≤ least) (ps : List Page) (few : (m : ℕ) → length (page ps m .entries) ≤ 5 * least) (a : Around) where
-  near-few : (want : List Pair) (x y : Option Pair) → length want < 2 * least → length (Rules.withNeighbour w ps a want x y .pairs) < 7 * least
+  near-few : (want : List Pair) (x y : Option Pair) → length want < 2 * least
+      → length (Rules.withNeighbour w ps a want x y .pairs) < 7 * least
   unfolding Rules.withNeighbour
   near-few want x (some r) h = simp length-append (omega (arith, pairs-few w (page ps (r .value)), few (r .value)))
   near-few want (some r) none h = simp length-append (omega (arith, pairs-few w (page ps (r .value)), few (r .value)))
   near-few want none none h = omega arith
 
-  gather-few : (b : Bool) (want : List Pair) → ltb (length want) (2 * least) ≡ b → length want < 7 * least → length (Rules.gatherBy b w ps a want .pairs) < 7 * least
+  gather-few : (b : Bool) (want : List Pair) → ltb (length want) (2 * least) ≡ b → length want < 7 * least
+      → length (Rules.gatherBy b w ps a want .pairs) < 7 * least
   unfolding Rules.gatherBy
   gather-few true want e h = near-few want (a .left) (a .right) (ltb-true (length want) (2 * least) e)
   gather-few false want e h = h
 
   pub group-few : (c : Change) → length (c .take) ≤ 2 → length (groupAt least w ps a c .pairs) < 7 * least
-  group-few c h = gather-few _ (wanted w c (page ps (a .own .value))) refl (omega (arith, wanted-few w c (page ps (a .own .value)), few (a .own .value)))
+  group-few c h =
+      gather-few _ (wanted w c (page ps (a .own .value))) refl
+      (omega (arith, wanted-few w c (page ps (a .own .value)), few (a .own .value)))
 
 -- its routers
 module _ (least w : ℕ) (ps : List Page) (a : Around) where
@@ -77,7 +74,8 @@ module _ (least w : ℕ) (ps : List Page) (a : Around) where
   routers-few c = gather-routers _ _
 
 pub actives-few : (w : ℕ) (ps : List Page) (rs : List Pair) → length (actives w ps rs) ≤ length rs
-actives-few w ps rs = omega (arith, few-those (λ (n : ℕ). active w (page ps n)) (map (λ (r : Pair). r .value) rs), length-map rs (λ (r : Pair). r .value))
+actives-few w ps rs =
+    omega (arith, few-those (λ (n : ℕ). active w (page ps n)) (map (λ (r : Pair). r .value) rs), length-map rs (λ (r : Pair). r .value))
 
 -- the parent's change
 pub routersTo-few : (rs : List Pair) (x : Parts) (n m : ℕ) → length (routersTo rs x n m) ≤ 2
@@ -87,7 +85,12 @@ routersTo-few rs (two x y) n m = omega arith
 
 pub exchange-drops : (olds news : List Pair) → length (exchange olds news .drop) ≤ length olds
 unfolding Rules.exchange
-exchange-drops olds news = omega (arith, length-map (those (λ (x : Pair). not (any (samePair x) news)) olds) (λ (x : Pair). x .key), few-those (λ (x : Pair). not (any (samePair x) news)) olds)
+exchange-drops olds news =
+    omega (
+      arith,
+      length-map (those (λ (x : Pair). not (any (samePair x) news)) olds) (λ (x : Pair). x .key),
+      few-those (λ (x : Pair). not (any (samePair x) news)) olds,
+    )
 
 pub exchange-takes : (olds news : List Pair) → length (exchange olds news .take) ≤ length news
 unfolding Rules.exchange
@@ -115,4 +118,9 @@ way-long (suc l) ps v k n acc =
 pub way-few : (least : ℕ) → 2 ≤ least → (s : Store) → Sound least s → (v k : ℕ) → s .oldest ≤ v → length (way s v k) ≤ 6
 way-few least twice s d v k from =
     let r : ℕ = rootAt (s .slots) v in
-    omega (arith, way-long (heightOf (s .pages) r) (s .pages) v k r [], root-level least twice s d v from, d .pages r (root-used least twice s d v from) .low)
+    omega (
+      arith,
+      way-long (heightOf (s .pages) r) (s .pages) v k r [],
+      root-level least twice s d v from,
+      d .pages r (root-used least twice s d v from) .low,
+    )

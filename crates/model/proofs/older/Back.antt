@@ -56,7 +56,8 @@ module _ (w : ℕ) where
           → restoredEntries w (endOne b c w e (endThose g w es)) ≡ map (revived w) (keep (not (eqb (e .start) w)) e (those kept es))
       at false c p q here ih = simp map-keep (ap (keep (kept e) (revived w e)) ih)
       at true true p q here ih = rw q ih
-      at true false p q here ih = rw q (ap₂ {C = List Entry} (λ (x : Entry) (xs : List Entry). x ∷ xs) (revive-ended e (not-ended e here (later e p))) ih)
+      at true false p q here ih =
+          rw q (ap₂ {C = List Entry} (λ (x : Entry) (xs : List Entry). x ∷ xs) (revive-ended e (not-ended e here (later e p))) ih)
 
   pub live-later : (e : Entry) → liveAt w e ≡ true → w < e .end
   live-later e p = ltb-true _ _ (both-true (leb (e .start) w) (ltb w (e .end)) p .1)
@@ -65,7 +66,8 @@ module _ (w : ℕ) where
   dropped-later c e h = live-later e (both-true (liveAt w e) (has (e .key) (c .drop)) h .0)
 
   -- (b) abandon undoes a change in place, and a killing
-  pub back-changed : (c : Change) (p : Page) → all endsWell (p .entries) ≡ true → restoredEntries w (changed w c p .entries) ≡ restoredEntries w (p .entries)
+  pub back-changed : (c : Change) (p : Page) → all endsWell (p .entries) ≡ true
+      → restoredEntries w (changed w c p .entries) ≡ restoredEntries w (p .entries)
   back-changed c p ok = back-born (c .take) _ ∙ back-end _ (dropped-later c) (p .entries) ok
 
   pub back-killed : (p : Page) → all endsWell (p .entries) ≡ true → restoredEntries w (killed w p .entries) ≡ restoredEntries w (p .entries)

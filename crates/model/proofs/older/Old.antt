@@ -35,7 +35,9 @@ module _ (v w : ℕ) (old : v < w) where
           → map pairOf (those (liveAt v) (endOne b c w e (endThose g w es))) ≡ map pairOf (keep (liveAt v e) e (those (liveAt v) es))
       at false c p q ih = simp map-keep (ap (keep (liveAt v e) (pairOf e)) ih)
       at true true p q ih = rw (unborn (e .start) (e .end) (eqb-true _ _ q)) ih
-      at true false p q ih = rw (lt-ltb v w old, lt-ltb v (e .end) (omega (arith, later e p))) (simp map-keep (ap (keep (leb (e .start) v && true) (pairOf e)) ih))
+      at true false p q ih =
+          rw (lt-ltb v w old, lt-ltb v (e .end) (omega (arith, later e p)))
+          (simp map-keep (ap (keep (leb (e .start) v && true) (pairOf e)) ih))
 
   pub live-later : (e : Entry) → liveAt w e ≡ true → w < e .end
   live-later e p = ltb-true _ _ (both-true (leb (e .start) w) (ltb w (e .end)) p .1)
@@ -43,7 +45,8 @@ module _ (v w : ℕ) (old : v < w) where
   -- (a) a change in place
   pub old-changed : (c : Change) (p : Page) → pairsAt v (changed w c p) ≡ pairsAt v p
   old-changed c p =
-      ap (map pairOf) (old-born (c .take) _) ∙ old-end (λ (e : Entry). liveAt w e && has (e .key) (c .drop)) (λ e h. live-later e (both-true (liveAt w e) (has (e .key) (c .drop)) h .0)) (p .entries)
+      ap (map pairOf) (old-born (c .take) _) ∙ old-end (λ (e : Entry). liveAt w e && has (e .key) (c .drop))
+      (λ e h. live-later e (both-true (liveAt w e) (has (e .key) (c .drop)) h .0)) (p .entries)
 
   pub old-killed : (p : Page) → pairsAt v (killed w p) ≡ pairsAt v p
   old-killed p = old-end (liveAt w) live-later (p .entries)

@@ -71,7 +71,8 @@ module _ (least u : ℕ) where
   from-w : (x : Pair) → leb w (born w x .start) ≡ true
   from-w x = le-leb w w (omega arith)
 
-  young-born : (xs : List Pair) (es : List Entry) → all (λ (e : Entry). leb w (e .start)) es ≡ true → all (λ (e : Entry). leb w (e .start)) (bornAll w xs es) ≡ true
+  young-born : (xs : List Pair) (es : List Entry) → all (λ (e : Entry). leb w (e .start)) es ≡ true
+      → all (λ (e : Entry). leb w (e .start)) (bornAll w xs es) ≡ true
   young-born [] es y = y
   young-born (x ∷ xs) es y = young-born xs (enter (born w x) es) (all-enter (λ (e : Entry). leb w (e .start)) (born w x) (from-w x) es y)
 
@@ -92,14 +93,20 @@ module _ (least u : ℕ) where
       at false e = old-killed v w h p
 
   tame-changed : (c : Change) (p : Page) (l : ℕ) → p .level ≡ suc l → TamePage w p → TamePage w (changed w c p)
-  tame-changed c p l e t = record { zeroed = used (changed w c p) l e; well = well-changed w c p (t .well); young = λ a. young-changed c p (t .young a) }
+  tame-changed c p l e t =
+      record { zeroed = used (changed w c p) l e; well = well-changed w c p (t .well); young = λ a. young-changed c p (t .young a) }
 
   tame-gone : (p : Page) (l : ℕ) → p .level ≡ suc l → TamePage w p → TamePage w (gone w p)
   tame-gone p l e t = at (active w p)
     where
       at : (b : Bool) → TamePage w (goneIf b w p)
       at true = tame-free
-      at false = record { zeroed = used (killed w p) l e; well = well-killed w p (t .well); young = λ a. all-end (λ (x : Entry). leb w (x .start)) (liveAt w) w (λ x y. y) (p .entries) (t .young a) }
+      at false =
+          record {
+            zeroed = used (killed w p) l e;
+            well = well-killed w p (t .well);
+            young = λ a. all-end (λ (x : Entry). leb w (x .start)) (liveAt w) w (λ x y. y) (p .entries) (t .young a);
+          }
 
   tame-filled : (l : ℕ) (xs : List Pair) → TamePage w (filled w (suc l) xs)
   tame-filled l xs = record { zeroed = used (filled w (suc l) xs) l refl; well = well-filled w (suc l) xs; young = λ a. young-filled xs }
@@ -126,7 +133,8 @@ module _ (least u : ℕ) where
   getD-of-map {B} f ps qs e n = sym (List·getD-map f qs n free) ∙ ap (λ (xs : List B). getD xs n (f free)) e ∙ List·getD-map f ps n free
 
   -- one page more is written
-  fine-set : (l : ℕ) (ps qs : List Page) (n : ℕ) (q : Page) → UndoFine l ps qs → page ps n .level ≤ l → TamePage w q → back w q ≡ back w (page qs n)
+  fine-set : (l : ℕ) (ps qs : List Page) (n : ℕ) (q : Page) → UndoFine l ps qs → page ps n .level ≤ l → TamePage w q
+      → back w q ≡ back w (page qs n)
       → ((v : ℕ) → v < w → pairsAt v q ≡ pairsAt v (page qs n)) → UndoFine l ps (set qs n q)
   fine-set l ps qs n q f low t e o = record {
     undone = map-set-same (back w) qs n q free e ∙ f .undone;
@@ -176,7 +184,8 @@ module _ (least u : ℕ) where
   RebuiltFine l ps (rebuilt qs news) = UndoFine (suc l) ps qs
   RebuiltFine l ps short = Unit {0}
 
-  rebuild-fine : (l level : ℕ) (ps : List Page) (rs : List Pair) (x : Parts) (ns : List ℕ) → level ≡ suc l → UndoFine (suc l) ps (retire w ps rs) → Every (SpareUnseen l ps) ns
+  rebuild-fine : (l level : ℕ) (ps : List Page) (rs : List Pair) (x : Parts) (ns : List ℕ) → level ≡ suc l
+      → UndoFine (suc l) ps (retire w ps rs) → Every (SpareUnseen l ps) ns
       → RebuiltFine l ps (Rules.rebuildWith w level ps rs x ns)
   unfolding Rules.rebuildWith
   rebuild-fine l level ps rs (one x) [] e f s = tt
@@ -199,11 +208,20 @@ module _ (least u : ℕ) where
       rest : List ℕ
       rest = those (λ (n : ℕ). active w (page ps n)) (map (λ (q : Pair). q .value) rs)
 
-      at : (b : Bool) → active w (page ps (r .value)) ≡ b → Every (SpareUnseen l ps) rest → Every (SpareUnseen l ps) (keep b (r .value) rest)
-      at true e ih = (record { low = omega (arith, g .0 .level); nothing = rw e refl; unseen = λ v h. old-none v w h (page ps (r .value) .entries) (t (r .value) .young e) }, ih)
+      at : (b : Bool) → active w (page ps (r .value)) ≡ b → Every (SpareUnseen l ps) rest
+          → Every (SpareUnseen l ps) (keep b (r .value) rest)
+      at true e ih = (
+        record {
+          low = omega (arith, g .0 .level);
+          nothing = rw e refl;
+          unseen = λ v h. old-none v w h (page ps (r .value) .entries) (t (r .value) .young e);
+        },
+        ih,
+      )
       at false e ih = ih
 
-  spare-free : (l : ℕ) (ps : List Page) → ((m : ℕ) → TamePage w (page ps m)) → (n : ℕ) (qs : List Page) → ((i : ℕ) → page qs i ≡ page ps (n + i))
+  spare-free : (l : ℕ) (ps : List Page) → ((m : ℕ) → TamePage w (page ps m)) → (n : ℕ) (qs : List Page)
+      → ((i : ℕ) → page qs i ≡ page ps (n + i))
       → Every (SpareUnseen l ps) (freeFrom n qs)
   spare-free l ps t n [] h = tt
   spare-free l ps t n (q ∷ qs) h = at (isFree q) refl (spare-free l ps t (suc n) qs (λ i. h (suc i) ∙ ap (page ps) (omega arith)))
@@ -211,18 +229,28 @@ module _ (least u : ℕ) where
       here : q ≡ page ps n
       here = h 0 ∙ ap (page ps) (omega arith)
 
-      at : (b : Bool) → isFree q ≡ b → Every (SpareUnseen l ps) (freeFrom (suc n) qs) → Every (SpareUnseen l ps) (keep b n (freeFrom (suc n) qs))
+      at : (b : Bool) → isFree q ≡ b → Every (SpareUnseen l ps) (freeFrom (suc n) qs)
+          → Every (SpareUnseen l ps) (keep b n (freeFrom (suc n) qs))
       at true e ih =
-          let z : page ps n ≡ free = t n .zeroed (subst (λ (p : Page). isFree p ≡ true) here e) in
-          (record { low = omega (arith, ap (λ (p : Page). p .level) z); nothing = ap (back w) z ∙ back-free; unseen = λ v h. ap (pairsAt v) z }, ih)
+          let z : page ps n ≡ free = t n .zeroed (subst (λ (p : Page). isFree p ≡ true) here e) in (
+            record {
+              low = omega (arith, ap (λ (p : Page). p .level) z);
+              nothing = ap (back w) z ∙ back-free;
+              unseen = λ v h. ap (pairsAt v) z;
+            },
+            ih,
+          )
       at false e ih = ih
 
   page-drop : (ps : List Page) (i : ℕ) → page (drop 5 ps) i ≡ page ps (5 + i)
   page-drop ps i = getD-drop 5 ps i free
 
-  spare-usable : (l : ℕ) (ps : List Page) (rs : List Pair) → ((m : ℕ) → TamePage w (page ps m)) → AllGood l ps rs → Every (SpareUnseen l ps) (usable w ps rs)
+  spare-usable : (l : ℕ) (ps : List Page) (rs : List Pair) → ((m : ℕ) → TamePage w (page ps m)) → AllGood l ps rs
+      → Every (SpareUnseen l ps) (usable w ps rs)
   unfolding Rules.usable
-  spare-usable l ps rs t g = every-append (SpareUnseen l ps) (those (λ (n : ℕ). active w (page ps n)) (map (λ (r : Pair). r .value) rs)) (freeOnes ps) (spare-active l ps rs t g) (spare-free l ps t 5 (drop 5 ps) (page-drop ps))
+  spare-usable l ps rs t g =
+      every-append (SpareUnseen l ps) (those (λ (n : ℕ). active w (page ps n)) (map (λ (r : Pair). r .value) rs)) (freeOnes ps)
+      (spare-active l ps rs t g) (spare-free l ps t 5 (drop 5 ps) (page-drop ps))
 
   -- the pages around a place on the way down
   abbrev pub Next : ℕ → List Page → ℕ → Option Pair → Type 0
@@ -262,11 +290,13 @@ module _ (least u : ℕ) where
 
     group-two : (r q : Pair) → LivePage l ps (r .value) → LivePage l ps (q .value) → q .value ≢ r .value → GroupFine l ps (r ∷ q ∷ [])
     group-two r q g h d = record {
-      retired = gone-fine l ps _ (q .value) (gone-fine l ps ps (r .value) (fine-refl (suc l) ps t) g refl) h (getD-set-other ps (r .value) (q .value) _ free d);
+      retired = gone-fine l ps _ (q .value) (gone-fine l ps ps (r .value) (fine-refl (suc l) ps t) g refl) h
+          (getD-set-other ps (r .value) (q .value) _ free d);
       good = (g, (h, tt));
     }
 
-    group-near : (a : Around) (want : List Pair) (x y : Option Pair) → LivePage l ps (a .own .value) → Next l ps (a .own .value) x → Next l ps (a .own .value) y
+    group-near : (a : Around) (want : List Pair) (x y : Option Pair) → LivePage l ps (a .own .value) → Next l ps (a .own .value) x
+        → Next l ps (a .own .value) y
         → GroupFine l ps (Rules.withNeighbour w ps a want x y .routers)
     unfolding Rules.withNeighbour
     group-near a want x (some r) g p q = group-two (a .own) r g (q .0) (q .1)
@@ -278,7 +308,8 @@ module _ (least u : ℕ) where
     group-fine true a want s = group-near a want (a .left) (a .right) (s .own) (s .left) (s .right)
     group-fine false a want s = group-one (a .own) (s .own)
 
-    rebuilt-fine : (level : ℕ) (g : Rules.Group) → level ≡ suc l → GroupFine l ps (g .routers) → RebuiltFine l ps (Rules.rebuild least w level ps g)
+    rebuilt-fine : (level : ℕ) (g : Rules.Group) → level ≡ suc l → GroupFine l ps (g .routers)
+        → RebuiltFine l ps (Rules.rebuild least w level ps g)
     unfolding Rules.rebuild
     rebuilt-fine level g e f = rebuild-fine l level ps (g .routers) _ _ e (f .retired) (spare-usable l ps (g .routers) t (f .good))
 
@@ -289,10 +320,12 @@ module _ (least u : ℕ) where
 
     changed-fine : (c : Change) (n : ℕ) → LivePage l ps n → UndoFine (suc l) ps (set ps n (changed w c (page ps n)))
     changed-fine c n g =
-        fine-set (suc l) ps ps n (changed w c (page ps n)) (fine-refl (suc l) ps t) (omega (arith, g .level)) (tame-changed c (page ps n) l (g .level) (t n))
+        fine-set (suc l) ps ps n (changed w c (page ps n)) (fine-refl (suc l) ps t) (omega (arith, g .level))
+        (tame-changed c (page ps n) l (g .level) (t n))
         (undo-changed c (page ps n) (t n)) (λ v h. old-changed v w h c (page ps n))
 
-    work-by : (b : Bool) (a : Around) (c : Change) → AroundLives l ps a → WorkedFine l ps (Rules.workBy least b w ps a c (page ps (a .own .value)))
+    work-by : (b : Bool) (a : Around) (c : Change) → AroundLives l ps a
+        → WorkedFine l ps (Rules.workBy least b w ps a c (page ps (a .own .value)))
     unfolding Rules.workBy Rules.regroup
     work-by true a c s = changed-fine c (a .own .value) (s .own)
     work-by false a c s = handed _ _ (rebuilt-fine _ _ (s .own .level) (group-fine _ a _ s))
@@ -302,12 +335,15 @@ module _ (least u : ℕ) where
     work-fine a c s = work-by _ a c s
 
     -- the root
-    topped-fine : (level : ℕ) (qs : List Page) (news : List Pair) (ns : List ℕ) → UndoFine (suc l) ps qs → Every (SpareUnseen l qs) ns → RootedFine ps (Climb.topped w level qs news ns)
+    topped-fine : (level : ℕ) (qs : List Page) (news : List Pair) (ns : List ℕ) → UndoFine (suc l) ps qs → Every (SpareUnseen l qs) ns
+        → RootedFine ps (Climb.topped w level qs news ns)
     unfolding Climb.topped
     topped-fine level qs news [] f s = tt
     topped-fine level qs news (n ∷ ns) f s = record {
       undone = map-set-same (back w) qs n (filled w (suc level) news) free (back-filled (suc level) news ∙ sym (s .0 .nothing)) ∙ f .undone;
-      old = λ v h m. getD-of-map (pairsAt v) qs (set qs n (filled w (suc level) news)) (map-set-same (pairsAt v) qs n (filled w (suc level) news) free (old-filled v w h (suc level) news ∙ sym (s .0 .unseen v h))) m ∙ f .old v h m;
+      old = λ v h m. getD-of-map (pairsAt v) qs (set qs n (filled w (suc level) news))
+          (map-set-same (pairsAt v) qs n (filled w (suc level) news) free (old-filled v w h (suc level) news ∙ sym (s .0 .unseen v h))) m
+          ∙ f .old v h m;
     }
 
     new-root : (level : ℕ) (r : Rebuilt) → RebuiltFine l ps r → RootedFine ps (Climb.newRoot w level r)
@@ -315,14 +351,16 @@ module _ (least u : ℕ) where
     new-root level short f = tt
     new-root level (rebuilt qs []) f = tt
     new-root level (rebuilt qs (x ∷ [])) f = keptBy _ ps qs f
-    new-root level (rebuilt qs (x ∷ y ∷ zs)) f = topped-fine level qs _ (freeOnes qs) f (spare-free l qs (f .tame) 5 (drop 5 qs) (page-drop qs))
+    new-root level (rebuilt qs (x ∷ y ∷ zs)) f = topped-fine level qs _ (freeOnes qs) f
+        (spare-free l qs (f .tame) 5 (drop 5 qs) (page-drop qs))
 
     root-stay : (b : Bool) (r : ℕ) (c : Change) → LivePage l ps r → RootedFine ps (Climb.rootStay least b w ps r c (page ps r))
     unfolding Climb.rootStay
     root-stay true r c g = keptBy _ ps _ (changed-fine c r g)
     root-stay false r c g = new-root _ _ (rebuilt-fine _ _ (g .level) (group-one (pair 0 r) g))
 
-    root-go : (b : Bool) (r : ℕ) (c : Change) (want : List Pair) → LivePage l ps r → RootedFine ps (Climb.rootGo least b w ps r c (page ps r) want)
+    root-go : (b : Bool) (r : ℕ) (c : Change) (want : List Pair) → LivePage l ps r
+        → RootedFine ps (Climb.rootGo least b w ps r c (page ps r) want)
     unfolding Climb.rootGo
     root-go true r c [] g = root-stay _ r c g
     root-go true r c (x ∷ []) g = keptBy _ ps _ (gone-fine l ps ps r (fine-refl (suc l) ps t) g refl)
@@ -349,7 +387,8 @@ module _ (least u : ℕ) where
     keep-next k n (some x) h g = (keep-good k (x .value) h (g .0), g .1)
 
     keep-beside : (k : ℕ) (a : Around) → l < k → AroundLives k ps a → AroundLives k qs a
-    keep-beside k a h s = record { own = keep-good k _ h (s .own); left = keep-next k _ (a .left) h (s .left); right = keep-next k _ (a .right) h (s .right) }
+    keep-beside k a h s =
+        record { own = keep-good k _ h (s .own); left = keep-next k _ (a .left) h (s .left); right = keep-next k _ (a .right) h (s .right) }
 
     pub keep-way : (k r : ℕ) (up : List Around) → l < k → WayGood k ps r up → WayGood k qs r up
     keep-way k r [] h g = keep-good k r h g
@@ -371,14 +410,18 @@ module _ (least u : ℕ) where
       at (work least w ps a c) (work-fine l ps t a c (g .0)) (λ c′ qs. climb-fine (suc l) r up c′ qs)
     where
       at : (x : Worked) → WorkedFine l ps x
-          → ((c′ : Change) (qs : List Page) → ((m : ℕ) → TamePage w (page qs m)) → WayGood (suc l) qs r up → RootedFine qs (climb least w r up c′ qs))
+          → ((c′ : Change) (qs : List Page) → ((m : ℕ) → TamePage w (page qs m)) → WayGood (suc l) qs r up
+          → RootedFine qs (climb least w r up c′ qs))
           → RootedFine ps (goOn x (λ (c′ : Change) (qs : List Page). climb least w r up c′ qs))
       at (settled qs) f ih = keptBy _ ps qs f
-      at (upward c′ qs) f ih = rooted-trans ps qs (climb least w r up c′ qs) (keptBy _ ps qs f) (ih c′ qs (f .tame) (keep-way l ps qs f (suc l) r up (omega arith) (g .1)))
+      at (upward c′ qs) f ih =
+          rooted-trans ps qs (climb least w r up c′ qs) (keptBy _ ps qs f)
+          (ih c′ qs (f .tame) (keep-way l ps qs f (suc l) r up (omega arith) (g .1)))
       at lacking f ih = tt
 
 -- the slot goes again
-slot-goes : (w n : ℕ) (xs : List Slot) → those (λ (x : Slot). not (eqb (x .version) w)) (Climb.putSlot w n xs) ≡ those (λ (x : Slot). not (eqb (x .version) w)) xs
+slot-goes : (w n : ℕ) (xs : List Slot) → those (λ (x : Slot). not (eqb (x .version) w)) (Climb.putSlot w n xs)
+    ≡ those (λ (x : Slot). not (eqb (x .version) w)) xs
 unfolding Climb.putSlot
 slot-goes w n [] = rw (eq-eqb w w refl)
 slot-goes w n (x ∷ xs) = at (not (eqb (x .version) w)) refl (slot-goes w n xs)
@@ -391,7 +434,8 @@ slot-goes w n (x ∷ xs) = at (not (eqb (x .version) w)) refl (slot-goes w n xs)
     at true e ih = rw e (ap {B = List Slot} (λ (ys : List Slot). x ∷ ys) ih)
     at false e ih = ih
 
--- what the store must be for it, which soundness gives: pages as rule 1 has them, and the way down leads over living pages, one level after the other
+-- what the store must be for it, which soundness gives: pages as rule 1 has them, and the way down leads over living pages, one level after
+-- the other
 pub record UndoReady (least : ℕ) (s : Store) (k : ℕ) : Type 0 where
   pub tame : (m : ℕ) → TamePage (next s) (page (s .pages) m)
   pub leads : WayGood least (s .current) 0 (s .pages) (rootAt (s .slots) (next s)) (way s (next s) k)

@@ -32,13 +32,17 @@ module _ (f : ℕ → Bool) where
       at true = k
       at false = both-intro (f (x .key)) _ h k
 
-  pub keys-so : (us ws : List Pair) → rising us ≡ true → rising ws ≡ true → all (λ (x : Pair). f (x .key)) us ≡ true → all (λ (x : Pair). f (x .key)) ws ≡ true → Keys (differ us ws)
+  pub keys-so : (us ws : List Pair) → rising us ≡ true → rising ws ≡ true → all (λ (x : Pair). f (x .key)) us ≡ true
+      → all (λ (x : Pair). f (x .key)) ws ≡ true → Keys (differ us ws)
   keys-so = by-merge (λ us ws. all (λ (x : Pair). f (x .key)) us ≡ true → all (λ (x : Pair). f (x .key)) ws ≡ true → Keys (differ us ws))
       (λ i j. refl)
-      (λ x xs ws a b ih i j. let (p, q) = all-cons (λ (z : Pair). f (z .key)) x xs i in subst Keys (sym (old-first x xs ws b)) (both-intro (f (x .key)) _ p (ih q j)))
-      (λ us y ys a b ih i j. let (p, q) = all-cons (λ (z : Pair). f (z .key)) y ys j in subst Keys (sym (new-first us y ys a)) (both-intro (f (y .key)) _ p (ih i q)))
+      (λ x xs ws a b ih i j. let (p, q) = all-cons (λ (z : Pair). f (z .key)) x xs i in
+      subst Keys (sym (old-first x xs ws b)) (both-intro (f (x .key)) _ p (ih q j)))
+      (λ us y ys a b ih i j. let (p, q) = all-cons (λ (z : Pair). f (z .key)) y ys j in
+      subst Keys (sym (new-first us y ys a)) (both-intro (f (y .key)) _ p (ih i q)))
       (λ x xs y ys e a b ih i j. let (p, q) = all-cons (λ (z : Pair). f (z .key)) x xs i in
-      subst Keys (sym (both-first x xs y ys e b)) (keys-against x (some (y .value)) (differ xs ys) p (ih q (all-cons (λ (z : Pair). f (z .key)) y ys j .1))))
+      subst Keys (sym (both-first x xs y ys e b))
+      (keys-against x (some (y .value)) (differ xs ys) p (ih q (all-cons (λ (z : Pair). f (z .key)) y ys j .1))))
 
 -- ---- "in key order", and no key twice
 
@@ -59,10 +63,12 @@ in-order us ws r q = by-merge (λ us ws. rising us ≡ true → rising ws ≡ tr
     let p = both-true (above (x .key) xs) (rising xs) i .1 in
     let o = both-true (above (y .key) ys) (rising ys) j .1 in
     let c : above (x .key) ys ≡ true = rw e b in
-    subst Stand (sym (both-first x xs y ys e b)) (at x (y .value) (differ xs ys) (keys-so (ltb (x .key)) xs ys p o a c) (ih p o) (eqb (x .value) (y .value))))
+    subst Stand (sym (both-first x xs y ys e b))
+    (at x (y .value) (differ xs ys) (keys-so (ltb (x .key)) xs ys p o a c) (ih p o) (eqb (x .value) (y .value))))
     us ws r q r q
   where
-    at : (x : Pair) (z : ℕ) (ds : List Delta) → all (λ (d : Delta). ltb (x .key) (d .key)) ds ≡ true → Stand ds → (b : Bool) → Stand (pick b [] (changed x z ∷ []) ++ ds)
+    at : (x : Pair) (z : ℕ) (ds : List Delta) → all (λ (d : Delta). ltb (x .key) (d .key)) ds ≡ true → Stand ds → (b : Bool)
+        → Stand (pick b [] (changed x z ∷ []) ++ ds)
     at x z ds k s true = s
     at x z ds k s false = both-intro _ (inOrder before ds) k s
 
@@ -79,30 +85,38 @@ module _ (k : ℕ) where
   says-old : (x : Pair) (xs ws : List Pair) → above (x .key) xs ≡ true → above (x .key) ws ≡ true → Says xs ws → Says (x ∷ xs) ws
   says-old x xs ws a b ih = ap (of k) (old-first x xs ws b) ∙ at (eqb (x .key) k) refl
     where
-      at : (t : Bool) → eqb (x .key) k ≡ t → keep t (removed x) (of k (differ xs ws)) ≡ saysOf k (pick t (some (x .value)) (find k xs)) (find k ws)
+      at : (t : Bool) → eqb (x .key) k ≡ t → keep t (removed x) (of k (differ xs ws))
+          ≡ saysOf k (pick t (some (x .value)) (find k xs)) (find k ws)
       at true e =
           let q : x .key ≡ k = eqb-true (x .key) k e in
           let a′ : above k xs ≡ true = rw (sym q) a in
           let b′ : above k ws ≡ true = rw (sym q) b in
-          ap₂ (λ (j : ℕ) (ds : List Delta). removed (pair j (x .value)) ∷ ds) q (silent xs ws a′ b′ ih) ∙ ap (saysOf k (some (x .value))) (sym (find-above k ws b′))
+          ap₂ (λ (j : ℕ) (ds : List Delta). removed (pair j (x .value)) ∷ ds) q (silent xs ws a′ b′ ih)
+          ∙ ap (saysOf k (some (x .value))) (sym (find-above k ws b′))
       at false e = ih
 
-  says-new : (us : List Pair) (y : Pair) (ys : List Pair) → above (y .key) us ≡ true → above (y .key) ys ≡ true → Says us ys → Says us (y ∷ ys)
+  says-new : (us : List Pair) (y : Pair) (ys : List Pair) → above (y .key) us ≡ true → above (y .key) ys ≡ true → Says us ys
+      → Says us (y ∷ ys)
   says-new us y ys a b ih = ap (of k) (new-first us y ys a) ∙ at (eqb (y .key) k) refl
     where
-      at : (t : Bool) → eqb (y .key) k ≡ t → keep t (added y) (of k (differ us ys)) ≡ saysOf k (find k us) (pick t (some (y .value)) (find k ys))
+      at : (t : Bool) → eqb (y .key) k ≡ t → keep t (added y) (of k (differ us ys))
+          ≡ saysOf k (find k us) (pick t (some (y .value)) (find k ys))
       at true e =
           let q : y .key ≡ k = eqb-true (y .key) k e in
           let a′ : above k us ≡ true = rw (sym q) a in
           let b′ : above k ys ≡ true = rw (sym q) b in
-          ap₂ (λ (j : ℕ) (ds : List Delta). added (pair j (y .value)) ∷ ds) q (silent us ys a′ b′ ih) ∙ ap (λ (o : Option ℕ). saysOf k o (some (y .value))) (sym (find-above k us a′))
+          ap₂ (λ (j : ℕ) (ds : List Delta). added (pair j (y .value)) ∷ ds) q (silent us ys a′ b′ ih)
+          ∙ ap (λ (o : Option ℕ). saysOf k o (some (y .value))) (sym (find-above k us a′))
       at false e = ih
 
-  says-both : (x : Pair) (xs : List Pair) (y : Pair) (ys : List Pair) → x .key ≡ y .key → above (x .key) xs ≡ true → above (y .key) ys ≡ true → Says xs ys → Says (x ∷ xs) (y ∷ ys)
+  says-both : (x : Pair) (xs : List Pair) (y : Pair) (ys : List Pair) → x .key ≡ y .key → above (x .key) xs ≡ true
+      → above (y .key) ys ≡ true → Says xs ys → Says (x ∷ xs) (y ∷ ys)
   says-both x xs y ys e a b ih =
-      ap (of k) (both-first x xs y ys e b) ∙ at (eqb (x .key) k) refl ∙ ap (λ (j : ℕ). saysOf k (find k (x ∷ xs)) (pick (eqb j k) (some (y .value)) (find k ys))) e
+      ap (of k) (both-first x xs y ys e b) ∙ at (eqb (x .key) k) refl
+      ∙ ap (λ (j : ℕ). saysOf k (find k (x ∷ xs)) (pick (eqb j k) (some (y .value)) (find k ys))) e
     where
-      same : (q : x .key ≡ k) (t : Bool) → of k (differ xs ys) ≡ [] → of k (pick t [] (changed x (y .value) ∷ []) ++ differ xs ys) ≡ pick t [] (changed (pair k (x .value)) (y .value) ∷ [])
+      same : (q : x .key ≡ k) (t : Bool) → of k (differ xs ys) ≡ []
+          → of k (pick t [] (changed x (y .value) ∷ []) ++ differ xs ys) ≡ pick t [] (changed (pair k (x .value)) (y .value) ∷ [])
       same q true z = z
       same q false z = rw (eq-eqb (x .key) k q) (ap₂ (λ (j : ℕ) (ds : List Delta). changed (pair j (x .value)) (y .value) ∷ ds) q z)
 
@@ -110,7 +124,8 @@ module _ (k : ℕ) where
       other n true = refl
       other n false = rw n
 
-      at : (t : Bool) → eqb (x .key) k ≡ t → of k (against x (some (y .value)) ++ differ xs ys) ≡ saysOf k (pick t (some (x .value)) (find k xs)) (pick t (some (y .value)) (find k ys))
+      at : (t : Bool) → eqb (x .key) k ≡ t → of k (against x (some (y .value)) ++ differ xs ys)
+          ≡ saysOf k (pick t (some (x .value)) (find k xs)) (pick t (some (y .value)) (find k ys))
       at true n =
           let q : x .key ≡ k = eqb-true (x .key) k n in
           let a′ : above k xs ≡ true = rw (sym q) a in
@@ -149,10 +164,13 @@ alike k (some x) = rw (eq-eqb x x refl)
 
 module _ (us ws : List Pair) (r : rising us ≡ true) (q : rising ws ≡ true) (k : ℕ) where
   pub complete : (find k us ≡ find k ws → ⊥) → names k (differ us ws) ≡ true
-  complete n = names-of k (differ us ws) ∙ ap (λ (ds : List Delta). not (isEmpty ds)) (says k us ws r q) ∙ differing k (find k us) (find k ws) n
+  complete n =
+      names-of k (differ us ws) ∙ ap (λ (ds : List Delta). not (isEmpty ds)) (says k us ws r q) ∙ differing k (find k us) (find k ws) n
 
   pub unchanged : find k us ≡ find k ws → names k (differ us ws) ≡ false
-  unchanged e = names-of k (differ us ws) ∙ ap (λ (ds : List Delta). not (isEmpty ds)) (says k us ws r q) ∙ ap (λ (o : Option ℕ). not (isEmpty (saysOf k (find k us) o))) (sym e) ∙ alike k (find k us)
+  unchanged e =
+      names-of k (differ us ws) ∙ ap (λ (ds : List Delta). not (isEmpty ds)) (says k us ws r q)
+      ∙ ap (λ (o : Option ℕ). not (isEmpty (saysOf k (find k us) o))) (sym e) ∙ alike k (find k us)
 
 -- ---- "applying it to the first version's settings gives the second's"
 
@@ -168,18 +186,22 @@ in-front p [] a = refl
 in-front p (x ∷ xs) a = rw (all-cons (λ (y : Pair). ltb (p .key) (y .key)) x xs a .0)
 
 -- what stands before all the keys that differ stays
-apply-behind : (x : Pair) (ds : List Delta) (us : List Pair) → all (λ (d : Delta). ltb (x .key) (d .key)) ds ≡ true → apply ds (x ∷ us) ≡ x ∷ apply ds us
+apply-behind : (x : Pair) (ds : List Delta) (us : List Pair) → all (λ (d : Delta). ltb (x .key) (d .key)) ds ≡ true
+    → apply ds (x ∷ us) ≡ x ∷ apply ds us
 apply-behind x [] us h = refl
 apply-behind x (d ∷ ds) us h =
     let (p, q) = all-cons (λ (e : Delta). ltb (x .key) (e .key)) d ds h in
     let l : x .key < d .key = ltb-true (x .key) (d .key) p in
-    let e : appliedOne d (x ∷ us) ≡ x ∷ appliedOne d us = rw (ne-eqb (x .key) (d .key) (λ (z : x .key ≡ d .key). omega arith), le-ltb (d .key) (x .key) (omega arith)) (one (eqb (d .kind) 1)) in
+    let e : appliedOne d (x ∷ us) ≡ x ∷ appliedOne d us
+    = rw (ne-eqb (x .key) (d .key) (λ (z : x .key ≡ d .key). omega arith), le-ltb (d .key) (x .key) (omega arith))
+    (one (eqb (d .kind) 1)) in
     ap (apply ds) e ∙ apply-behind x ds (appliedOne d us) q
   where
     rest : List Pair
     rest = those (λ (y : Pair). not (eqb (y .key) (d .key))) us
 
-    one : (b : Bool) → pick b (x ∷ rest) (x ∷ enterPair (pair (d .key) (d .new)) rest) ≡ x ∷ pick b rest (enterPair (pair (d .key) (d .new)) rest)
+    one : (b : Bool) → pick b (x ∷ rest) (x ∷ enterPair (pair (d .key) (d .new)) rest)
+        ≡ x ∷ pick b rest (enterPair (pair (d .key) (d .new)) rest)
     one true = refl
     one false = refl
 
@@ -187,13 +209,16 @@ pub applied : (us ws : List Pair) → rising us ≡ true → rising ws ≡ true 
 applied us ws r q = by-merge (λ us ws. rising us ≡ true → rising ws ≡ true → apply (differ us ws) us ≡ ws)
     (λ i j. refl) old new both us ws r q r q
   where
-    old : (x : Pair) (xs ws : List Pair) → above (x .key) xs ≡ true → above (x .key) ws ≡ true → (rising xs ≡ true → rising ws ≡ true → apply (differ xs ws) xs ≡ ws)
+    old : (x : Pair) (xs ws : List Pair) → above (x .key) xs ≡ true → above (x .key) ws ≡ true
+        → (rising xs ≡ true → rising ws ≡ true → apply (differ xs ws) xs ≡ ws)
         → rising (x ∷ xs) ≡ true → rising ws ≡ true → apply (differ (x ∷ xs) ws) (x ∷ xs) ≡ ws
     old x xs ws a b ih i j =
         ap (λ (ds : List Delta). apply ds (x ∷ xs)) (old-first x xs ws b)
-        ∙ ap (apply (differ xs ws)) (rw (eq-eqb (x .key) (x .key) refl) (without (x .key) xs a)) ∙ ih (both-true (above (x .key) xs) (rising xs) i .1) j
+        ∙ ap (apply (differ xs ws)) (rw (eq-eqb (x .key) (x .key) refl) (without (x .key) xs a))
+        ∙ ih (both-true (above (x .key) xs) (rising xs) i .1) j
 
-    new : (us : List Pair) (y : Pair) (ys : List Pair) → above (y .key) us ≡ true → above (y .key) ys ≡ true → (rising us ≡ true → rising ys ≡ true → apply (differ us ys) us ≡ ys)
+    new : (us : List Pair) (y : Pair) (ys : List Pair) → above (y .key) us ≡ true → above (y .key) ys ≡ true
+        → (rising us ≡ true → rising ys ≡ true → apply (differ us ys) us ≡ ys)
         → rising us ≡ true → rising (y ∷ ys) ≡ true → apply (differ us (y ∷ ys)) us ≡ y ∷ ys
     new us y ys a b ih i j =
         let o = both-true (above (y .key) ys) (rising ys) j .1 in
@@ -203,20 +228,25 @@ applied us ws r q = by-merge (λ us ws. rising us ≡ true → rising ws ≡ tru
         ∙ apply-behind y (differ us ys) us (keys-so (ltb (y .key)) us ys i o a b) ∙ ap (λ (zs : List Pair). y ∷ zs) (ih i o)
 
     both : (x : Pair) (xs : List Pair) (y : Pair) (ys : List Pair) → x .key ≡ y .key → above (x .key) xs ≡ true → above (y .key) ys ≡ true
-        → (rising xs ≡ true → rising ys ≡ true → apply (differ xs ys) xs ≡ ys) → rising (x ∷ xs) ≡ true → rising (y ∷ ys) ≡ true → apply (differ (x ∷ xs) (y ∷ ys)) (x ∷ xs) ≡ y ∷ ys
+        → (rising xs ≡ true → rising ys ≡ true → apply (differ xs ys) xs ≡ ys) → rising (x ∷ xs) ≡ true → rising (y ∷ ys) ≡ true
+        → apply (differ (x ∷ xs) (y ∷ ys)) (x ∷ xs) ≡ y ∷ ys
     both x xs y ys e a b ih i j =
         let p = both-true (above (x .key) xs) (rising xs) i .1 in
         let o = both-true (above (y .key) ys) (rising ys) j .1 in
         let c : above (x .key) ys ≡ true = rw e b in
         ap (λ (ds : List Delta). apply ds (x ∷ xs)) (both-first x xs y ys e b)
-        ∙ at (keys-so (ltb (x .key)) xs ys p o a c) (eqb (x .value) (y .value)) refl ∙ ap₂ (λ (k : ℕ) (zs : List Pair). pair k (y .value) ∷ zs) e (ih p o)
+        ∙ at (keys-so (ltb (x .key)) xs ys p o a c) (eqb (x .value) (y .value)) refl
+        ∙ ap₂ (λ (k : ℕ) (zs : List Pair). pair k (y .value) ∷ zs) e (ih p o)
       where
         at : all (λ (d : Delta). ltb (x .key) (d .key)) (differ xs ys) ≡ true → (t : Bool) → eqb (x .value) (y .value) ≡ t
             → apply (pick t [] (changed x (y .value) ∷ []) ++ differ xs ys) (x ∷ xs) ≡ pair (x .key) (y .value) ∷ apply (differ xs ys) xs
-        at h true f = apply-behind x (differ xs ys) xs h ∙ ap (λ (z : ℕ). pair (x .key) z ∷ apply (differ xs ys) xs) (eqb-true (x .value) (y .value) f)
+        at h true f =
+            apply-behind x (differ xs ys) xs h ∙ ap (λ (z : ℕ). pair (x .key) z ∷ apply (differ xs ys) xs)
+            (eqb-true (x .value) (y .value) f)
         at h false f =
             let g : appliedOne (changed x (y .value)) (x ∷ xs) ≡ pair (x .key) (y .value) ∷ xs =
-            rw (eq-eqb (x .key) (x .key) refl) (ap (enterPair (pair (x .key) (y .value))) (without (x .key) xs a) ∙ in-front (pair (x .key) (y .value)) xs a) in
+            rw (eq-eqb (x .key) (x .key) refl)
+            (ap (enterPair (pair (x .key) (y .value))) (without (x .key) xs a) ∙ in-front (pair (x .key) (y .value)) xs a) in
             ap (apply (differ xs ys)) g ∙ apply-behind (pair (x .key) (y .value)) (differ xs ys) xs h
 
 -- ---- equal settings, and the two sides exchanged
@@ -231,7 +261,8 @@ pub sides : (us ws : List Pair) → rising us ≡ true → rising ws ≡ true �
 sides = by-merge (λ us ws. differ ws us ≡ map exchanged (differ us ws)) refl
     (λ x xs ws a b ih. new-first ws x xs b ∙ ap (λ (ds : List Delta). added x ∷ ds) ih ∙ sym (ap (map exchanged) (old-first x xs ws b)))
     (λ us y ys a b ih. old-first y ys us a ∙ ap (λ (ds : List Delta). removed y ∷ ds) ih ∙ sym (ap (map exchanged) (new-first us y ys a)))
-    (λ x xs y ys e a b ih. both-first y ys x xs (sym e) a ∙ at x y e (differ xs ys) (differ ys xs) ih (eqb (x .value) (y .value)) refl ∙ sym (ap (map exchanged) (both-first x xs y ys e b)))
+    (λ x xs y ys e a b ih. both-first y ys x xs (sym e) a ∙ at x y e (differ xs ys) (differ ys xs) ih (eqb (x .value) (y .value)) refl
+    ∙ sym (ap (map exchanged) (both-first x xs y ys e b)))
   where
     at : (x y : Pair) → x .key ≡ y .key → (ds es : List Delta) → es ≡ map exchanged ds → (t : Bool) → eqb (x .value) (y .value) ≡ t
         → against y (some (x .value)) ++ es ≡ map exchanged (pick t [] (changed x (y .value) ∷ []) ++ ds)

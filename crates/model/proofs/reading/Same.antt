@@ -1,10 +1,10 @@
--- Settings that are the same, key for key: they are equal, nothing differs between them, and no lookup tells them apart. An insert undone by a
--- delete.
+-- Settings that are the same, key for key: they are equal, nothing differs between them, and no lookup tells them apart. An insert undone
+-- by a delete.
 -- Assumes nothing.
 use Prim.Native.Nat.{ℕ}
 use native.Mathlib.Omega.{arith}
 use mathlib.Core.Bool.{Bool, true, false, _&&_, not}
-use mathlib.Core.Option.{none, some}
+use mathlib.Core.Option.{none, some, Option·some-injective}
 use mathlib.Core.Path.{_≡_, refl, ap, ap₂, sym, _∙_}
 use mathlib.Core.List.{List, [], _∷_, _++_}
 use lib.Dec.{ltb, eqb}
@@ -76,24 +76,27 @@ find-tail k x xs n = rw (ne-eqb (x .key) k n)
 not-some : (n : ℕ) → none ≡ some n → ⊥
 not-some n e = let z : _≡_ {A = ℕ} 0 1 = cc in omega arith
 
-value-is : (a b : ℕ) → some a ≡ some b → a ≡ b
-value-is a b e = cc
-
 module _ (f : ℕ → Bool) where
   abbrev Finds : List Pair → List Pair → Type 0
-  Finds us ws = all (λ (x : Pair). f (x .key)) us ≡ true → all (λ (x : Pair). f (x .key)) ws ≡ true → ((k : ℕ) → f k ≡ true → find k us ≡ find k ws) → us ≡ ws
+  Finds us ws =
+      all (λ (x : Pair). f (x .key)) us ≡ true → all (λ (x : Pair). f (x .key)) ws ≡ true → ((k : ℕ) → f k ≡ true → find k us ≡ find k ws)
+      → us ≡ ws
 
-  both-find : (x : Pair) (xs : List Pair) (y : Pair) (ys : List Pair) → x .key ≡ y .key → above (x .key) xs ≡ true → above (y .key) ys ≡ true → Finds xs ys → Finds (x ∷ xs) (y ∷ ys)
+  both-find : (x : Pair) (xs : List Pair) (y : Pair) (ys : List Pair) → x .key ≡ y .key → above (x .key) xs ≡ true
+      → above (y .key) ys ≡ true → Finds xs ys → Finds (x ∷ xs) (y ∷ ys)
   both-find x xs y ys e a b ih i j h =
       let (g, i′) = all-cons (λ (z : Pair). f (z .key)) x xs i in
       let j′ = all-cons (λ (z : Pair). f (z .key)) y ys j .1 in
-      let v : x .value ≡ y .value = value-is (x .value) (y .value) (sym (find-head x xs) ∙ h (x .key) g ∙ ap (λ (k : ℕ). find k (y ∷ ys)) e ∙ find-head y ys) in
-      ap₂ {C = List Pair} (λ (z : Pair) (zs : List Pair). z ∷ zs) (ap₂ (λ (k n : ℕ). record { key = k; value = n }) e v) (ih i′ j′ (λ k l. rest k l (eqb (x .key) k) refl))
+      let v : x .value ≡ y .value = Option·some-injective (x .value) (y .value)
+      (sym (find-head x xs) ∙ h (x .key) g ∙ ap (λ (k : ℕ). find k (y ∷ ys)) e ∙ find-head y ys) in
+      ap₂ {C = List Pair} (λ (z : Pair) (zs : List Pair). z ∷ zs) (ap₂ (λ (k n : ℕ). record { key = k; value = n }) e v)
+      (ih i′ j′ (λ k l. rest k l (eqb (x .key) k) refl))
     where
       rest : (k : ℕ) → f k ≡ true → (p : Bool) → eqb (x .key) k ≡ p → find k xs ≡ find k ys
       rest k l true z =
           let u : x .key ≡ k = eqb-true (x .key) k z in
-          ap (λ (n : ℕ). find n xs) (sym u) ∙ find-above (x .key) xs a ∙ sym (find-above (y .key) ys b) ∙ ap (λ (n : ℕ). find n ys) (sym e ∙ u)
+          ap (λ (n : ℕ). find n xs) (sym u) ∙ find-above (x .key) xs a ∙ sym (find-above (y .key) ys b)
+          ∙ ap (λ (n : ℕ). find n ys) (sym e ∙ u)
       rest k l false z =
           let n : x .key ≡ k → ⊥ = eqb-false (x .key) k z in
           sym (find-tail k x xs n) ∙ h k l ∙ find-tail k y ys (λ (u : y .key ≡ k). n (e ∙ u))
@@ -101,8 +104,11 @@ module _ (f : ℕ → Bool) where
   -- Lists that stand by key, and find the same for each key that either has, are equal.
   pub finds-equal : (us ws : List Pair) → rising us ≡ true → rising ws ≡ true → Finds us ws
   finds-equal = by-merge Finds (λ i j h. refl)
-      (λ x xs ws a b ih i j h. absurd (not-some (x .value) (sym (sym (find-head x xs) ∙ h (x .key) (all-cons (λ (z : Pair). f (z .key)) x xs i .0) ∙ find-above (x .key) ws b))))
-      (λ us y ys a b ih i j h. absurd (not-some (y .value) (sym (find-above (y .key) us a) ∙ h (y .key) (all-cons (λ (z : Pair). f (z .key)) y ys j .0) ∙ find-head y ys)))
+      (λ x xs ws a b ih i j h. absurd
+      (not-some (x .value)
+      (sym (sym (find-head x xs) ∙ h (x .key) (all-cons (λ (z : Pair). f (z .key)) x xs i .0) ∙ find-above (x .key) ws b))))
+      (λ us y ys a b ih i j h. absurd
+      (not-some (y .value) (sym (find-above (y .key) us a) ∙ h (y .key) (all-cons (λ (z : Pair). f (z .key)) y ys j .0) ∙ find-head y ys)))
       both-find
 
 -- ---- an insert undone by a delete
@@ -120,6 +126,8 @@ pub enter-undone : (k x : ℕ) (us : List Pair) → find k us ≡ none → witho
 enter-undone k x [] h = rw (eq-eqb k k refl)
 enter-undone k x (u ∷ us) h = let (n, t) = missing k u us h in at (ltb k (u .key)) n (enter-undone k x us t)
   where
-    at : (b : Bool) → (u .key ≡ k → ⊥) → without k (enterPair (pair k x) us) ≡ us → without k (placed b (pair k x) u us (enterPair (pair k x) us)) ≡ u ∷ us
+    at : (b : Bool) → (u .key ≡ k → ⊥) → without k (enterPair (pair k x) us) ≡ us
+        → without k (placed b (pair k x) u us (enterPair (pair k x) us)) ≡ u ∷ us
     at true n ih = ap (λ (c : Bool). keep (not c) (pair k x) (without k (u ∷ us))) (eq-eqb k k refl) ∙ kept-all k (u ∷ us) h
-    at false n ih = ap (λ (c : Bool). keep (not c) u (without k (enterPair (pair k x) us))) (ne-eqb (u .key) k n) ∙ ap (λ (vs : List Pair). u ∷ vs) ih
+    at false n ih =
+        ap (λ (c : Bool). keep (not c) u (without k (enterPair (pair k x) us))) (ne-eqb (u .key) k n) ∙ ap (λ (vs : List Pair). u ∷ vs) ih

@@ -20,7 +20,8 @@ use Rattle.model.specs.Settings.{Both, onward, together, fits, lent}
 use Rattle.model.proofs.lists.Lists.{all-cons}
 use Rattle.model.proofs.lists.Members.{holds-true, not-both, bool-cases}
 use Rattle.model.proofs.sound.Ready.{numbered-by, insert-by, delete-by}
-use Rattle.model.proofs.reading.Alike.{Alike, alike-self, alike-trans, alike-settings, alike-lookup, alike-visits, alike-range, alike-range-visits}
+use Rattle.model.proofs.reading.Alike.{Alike, alike-self, alike-trans, alike-settings, alike-lookup, alike-visits, alike-range}
+use Rattle.model.proofs.reading.Alike.{alike-range-visits}
 use Rattle.model.proofs.kept.Preserve.{Sounds, insert-keeps, delete-keeps}
 use Rattle.model.proofs.turning.Abandon.{steady-kept}
 use Rattle.model.proofs.turning.Returned.{returned-by}
@@ -46,23 +47,43 @@ module _ (least : ℕ) (four : 4 ≤ least) (b : Both) (a : Agrees least b) wher
 
   edits : (o : s .opened ≡ true) (c : Call) (r : Result) → Sounds least four s (a .is-sound) o r → Goes c r
   edits o c (refused n) f = itself s
-  edits o c (done t) f = record { current = omega (arith, f .current); oldest = omega (arith, f .oldest); steady = λ v g h. f .steady v (omega (arith, f .oldest)) (omega arith) }
+  edits o c (done t) f =
+      record {
+        current = omega (arith, f .current);
+        oldest = omega (arith, f .oldest);
+        steady = λ v g h. f .steady v (omega (arith, f .oldest)) (omega arith);
+      }
 
   -- an abandon leaves the committed versions
   left-behind : s .opened ≡ true → WaysStay s (abandoned s)
   unfolding abandoned
-  left-behind o = record { current = omega arith; oldest = omega arith; steady = λ v g z. steady-kept least (omega arith) s (a .is-sound) o v g (omega arith) }
+  left-behind o =
+      record {
+        current = omega arith;
+        oldest = omega arith;
+        steady = λ v g z. steady-kept least (omega arith) s (a .is-sound) o v g (omega arith);
+      }
 
   goes : (c : Call) → fits c ≡ true → WaysStay s (onward b c (callBy least s c) .store)
   unfolding begin commit abandon pruned
   goes begins h =
-      numbered-by (Goes begins) (rule 8 (s .opened) ∷ rule 9 (leb 1048574 (s .current)) ∷ []) (done (record { current = s .current; opened = true; oldest = s .oldest; slots = s .slots; pages = s .pages })) (λ n. itself s)
-      (λ f. record { current = omega arith; oldest = omega arith; steady = λ v g z. record { root = refl; height = refl; shows = λ n. refl } })
+      numbered-by (Goes begins) (rule 8 (s .opened) ∷ rule 9 (leb 1048574 (s .current)) ∷ [])
+      (done (record { current = s .current; opened = true; oldest = s .oldest; slots = s .slots; pages = s .pages })) (λ n. itself s)
+      (λ f. record {
+        current = omega arith;
+        oldest = omega arith;
+        steady = λ v g z. record { root = refl; height = refl; shows = λ n. refl };
+      })
   goes commits h =
       numbered-by (Goes commits) (rule 7 (not (s .opened)) ∷ rule 15 (unchanged s) ∷ []) (done (committed s)) (λ n. itself s)
-      (λ f. record { current = omega arith; oldest = omega arith; steady = λ v g z. record { root = refl; height = refl; shows = λ n. refl } })
+      (λ f. record {
+        current = omega arith;
+        oldest = omega arith;
+        steady = λ v g z. record { root = refl; height = refl; shows = λ n. refl };
+      })
   goes abandons h =
-      numbered-by (Goes abandons) (rule 7 (not (s .opened)) ∷ []) (done (abandoned s)) (λ n. itself s) (λ f. left-behind (not-false (s .opened) (f .0)))
+      numbered-by (Goes abandons) (rule 7 (not (s .opened)) ∷ []) (done (abandoned s)) (λ n. itself s)
+      (λ f. left-behind (not-false (s .opened) (f .0)))
   goes (inserts k x) h = at (bool-cases (s .opened))
     where
       at : (s .opened ≡ true) ⊎ (s .opened ≡ false) → Goes (inserts k x) (insert least s k x)
@@ -75,12 +96,23 @@ module _ (least : ℕ) (four : 4 ≤ least) (b : Both) (a : Agrees least b) wher
       at (inr o) = delete-by (Goes (deletes k)) least s k (λ n. itself s) (λ y low z. absurd (not-both (s .opened) y o))
   goes (returns v) h =
       returned-by least (λ (q : Came). WaysStay s (onward b (returns v) q .store)) four s (a .is-sound) v (λ n. itself s)
-      (λ o z t g. record { current = omega (arith, g .current); oldest = omega (arith, g .oldest); steady = λ v f h. g .steady v (omega (arith, g .oldest)) h }) (λ o z n l. left-behind o)
+      (λ o z t g. record {
+        current = omega (arith, g .current);
+        oldest = omega (arith, g .oldest);
+        steady = λ v f h. g .steady v (omega (arith, g .oldest)) h;
+      }) (λ o z n l. left-behind o)
   goes (prunes w) h =
       prune-by (Goes (prunes w)) least s w (λ n. itself s)
-      (λ e o low high. record { current = omega arith; oldest = low; steady = λ v g z. steady-pruned least (omega arith) s (a .is-sound) e o w low high v (record { from = g; upto = omega (arith, ap (λ (b : Bool). lastOf b (s .current)) o) }) })
+      (λ e o low high.
+      record {
+        current = omega arith;
+        oldest = low;
+        steady = λ v g z. steady-pruned least (omega arith) s (a .is-sound) e o w low high v
+            (record { from = g; upto = omega (arith, ap (λ (b : Bool). lastOf b (s .current)) o) });
+      })
 
-pub goes-on : (least : ℕ) → 4 ≤ least → (cs : List Call) → all fits cs ≡ true → (b : Both) → Agrees least b → WaysStay (b .store) (together least b cs .store)
+pub goes-on : (least : ℕ) → 4 ≤ least → (cs : List Call) → all fits cs ≡ true → (b : Both) → Agrees least b
+    → WaysStay (b .store) (together least b cs .store)
 goes-on least four [] h b a = itself (b .store)
 goes-on least four (c ∷ cs) h b a =
     let (x, y) = all-cons fits c cs h in
@@ -89,15 +121,20 @@ goes-on least four (c ∷ cs) h b a =
     record {
       current = omega (arith, first .current, later .current);
       oldest = omega (arith, first .oldest, later .oldest);
-      steady = λ v g z. alike-trans (b .store) v (onward b c (callBy least (b .store) c) .store) v (together least (onward b c (callBy least (b .store) c)) cs .store) v (first .steady v (omega (arith, later .oldest)) z) (later .steady v g (omega (arith, first .current)));
+      steady = λ v g z. alike-trans (b .store) v (onward b c (callBy least (b .store) c) .store) v
+          (together least (onward b c (callBy least (b .store) c)) cs .store) v (first .steady v (omega (arith, later .oldest)) z)
+          (later .steady v g (omega (arith, first .current)));
     }
 
 -- For every sound store, committed version and later calls, up to a prune above it: the version looks as it did, root and pages.
-pub views-stay : (least : ℕ) → 4 ≤ least → (s : Store) → T (sound least s) → (cs : List Call) → T (all fits cs) → (v : ℕ) → together least (lent s) cs .store .oldest ≤ v → v ≤ s .current
+pub views-stay : (least : ℕ) → 4 ≤ least → (s : Store) → T (sound least s) → (cs : List Call) → T (all fits cs) → (v : ℕ)
+    → together least (lent s) cs .store .oldest ≤ v → v ≤ s .current
     → Alike s v (together least (lent s) cs .store) v
-views-stay least four s sure cs h v g z = goes-on least four cs (holds-true (all fits cs) h) (lent s) (lent-agrees least s sure) .steady v g z
+views-stay least four s sure cs h v g z =
+    goes-on least four cs (holds-true (all fits cs) h) (lent s) (lent-agrees least s sure) .steady v g z
 
-module _ (least : ℕ) (four : 4 ≤ least) (s : Store) (sure : T (sound least s)) (cs : List Call) (h : T (all fits cs)) (v : ℕ) (g : together least (lent s) cs .store .oldest ≤ v)
+module _ (least : ℕ) (four : 4 ≤ least) (s : Store) (sure : T (sound least s)) (cs : List Call) (h : T (all fits cs)) (v : ℕ)
+    (g : together least (lent s) cs .store .oldest ≤ v)
     (z : v ≤ s .current) where
   abbrev later : Store
   later = together least (lent s) cs .store

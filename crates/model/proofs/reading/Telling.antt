@@ -1,28 +1,20 @@
 -- What a call that tells (specs/Told) leaves in the caller's list, for things of any kind: they are counted first, and written in a second
 -- pass, one behind the other.
 -- Assumes nothing.
-use Prim.Native.Nat.{ℕ, suc, _+_, _*_, _^_, _≤_, _<_}
+use Prim.Native.Nat.{ℕ, _+_, _*_, _^_, _≤_, _<_}
 use native.Mathlib.Omega.{arith}
 use native.Mathlib.Nat.{mul-add, mul-suc, mul-zero}
 use mathlib.Core.Bool.{Bool, true, false}
 use mathlib.Core.Path.{_≡_, refl, ap, sym, _∙_}
-use mathlib.Core.List.{List, [], _∷_, _++_, append-assoc, append-nil}
-use lib.ListN.{length, set, drop, length-append}
+use mathlib.Core.List.{List, [], _∷_, _++_, append-nil}
+use lib.ListN.{length, drop, length-append}
 use lib.Seq.{sets, length-sets, sets-eq}
 use borrow.Author.Tests.{lt-ltb, le-ltb}
-use Rattle.model.specs.Basic.{flatMap}
 use Rattle.model.specs.Calls.{rule, firstOf}
 use Rattle.model.specs.Told.{toldIn, toldBy}
 use Rattle.model.specs.Telling.{Shape, allNumbers, written, Space, Gathers}
 use Rattle.model.specs.Lent.{listed}
-
-flat-append : {A B : Type 0} (f : A → List B) (xs ys : List A) → flatMap f (xs ++ ys) ≡ flatMap f xs ++ flatMap f ys
-flat-append f [] ys = refl
-flat-append f (x ∷ xs) ys = ap (λ (zs : List _). f x ++ zs) (flat-append f xs ys) ∙ sym (append-assoc (f x) (flatMap f xs) (flatMap f ys))
-
-sets-append : (ns : List ℕ) (i : ℕ) (us vs : List ℕ) → sets ns i (us ++ vs) ≡ sets (sets ns i us) (i + length us) vs
-sets-append ns i [] vs = let e : i + 0 ≡ i = omega arith in rw e
-sets-append ns i (u ∷ us) vs = let e : i + suc (length us) ≡ suc i + length us = omega arith in rw e (sets-append (set ns i u) (suc i) us vs)
+use Rattle.model.proofs.lists.Lists.{flat-append, sets-append}
 
 module _ {A : Type 0} (t : Shape A) where
   -- what a loop that gathers has: what is left of the whole, behind the first k, with the list as it is now
@@ -34,17 +26,20 @@ module _ {A : Type 0} (t : Shape A) where
 
   pub length-numbers : (xs : List A) → length (allNumbers t xs) ≡ t .each * length xs
   length-numbers [] = sym (mul-zero (t .each))
-  length-numbers (x ∷ xs) = omega (arith, length-append (t .numbers x) (allNumbers t xs), length-numbers xs, t .size x, mul-suc (t .each) (length xs))
+  length-numbers (x ∷ xs) =
+      omega (arith, length-append (t .numbers x) (allNumbers t xs), length-numbers xs, t .size x, mul-suc (t .each) (length xs))
 
   pub written-none : (w : Bool) (ns : List ℕ) (k : ℕ) → written t w ns k [] ≡ ns
   unfolding written
   written-none true ns k = refl
   written-none false ns k = refl
 
-  written-append : (w : Bool) (ns : List ℕ) (k : ℕ) (xs ys : List A) → written t w ns k (xs ++ ys) ≡ written t w (written t w ns k xs) (k + length xs) ys
+  written-append : (w : Bool) (ns : List ℕ) (k : ℕ) (xs ys : List A)
+      → written t w ns k (xs ++ ys) ≡ written t w (written t w ns k xs) (k + length xs) ys
   unfolding written
   written-append true ns k xs ys =
-      let e : t .each * k + length (allNumbers t xs) ≡ t .each * (k + length xs) = omega (arith, length-numbers xs, mul-add (t .each) k (length xs)) in
+      let e : t .each * k + length (allNumbers t xs) ≡ t .each * (k + length xs)
+      = omega (arith, length-numbers xs, mul-add (t .each) k (length xs)) in
       ap (sets ns (t .each * k)) (flat-append (t .numbers) xs ys) ∙ sets-append ns (t .each * k) (allNumbers t xs) (allNumbers t ys)
       ∙ ap (λ (i : ℕ). sets (sets ns (t .each * k) (allNumbers t xs)) i (allNumbers t ys)) e
   written-append false ns k xs ys = refl
@@ -74,7 +69,14 @@ module _ {A : Type 0} (t : Shape A) where
     pub space-front : Space t w ns k xs
     space-front = record {
       few = omega (arith, s .few, length-append xs ys);
-      room = λ e. omega (arith, s .room e, length-append xs ys, mul-add (t .each) k (length (xs ++ ys)), mul-add (t .each) k (length xs), more);
+      room = λ e. omega (
+        arith,
+        s .room e,
+        length-append xs ys,
+        mul-add (t .each) k (length (xs ++ ys)),
+        mul-add (t .each) k (length xs),
+        more,
+      );
     }
       where
         more : t .each * length (xs ++ ys) ≡ t .each * length xs + t .each * length ys
@@ -93,7 +95,8 @@ module _ {A : Type 0} (t : Shape A) where
 
   module _ {w : Bool} {ns₀ ns : List ℕ} {k₀ k : ℕ} {whole : List A} where
     -- the first of what is left is written
-    pub gather-step : (xs ys : List A) → Gathering w ns₀ ns k₀ k whole (xs ++ ys) → (ns′ : List ℕ) (k′ : ℕ) → Gathers t w ns ns′ k k′ xs → Gathering w ns₀ ns′ k₀ k′ whole ys
+    pub gather-step : (xs ys : List A) → Gathering w ns₀ ns k₀ k whole (xs ++ ys) → (ns′ : List ℕ) (k′ : ℕ) → Gathers t w ns ns′ k k′ xs
+        → Gathering w ns₀ ns′ k₀ k′ whole ys
     gather-step xs ys g ns′ k′ r = record {
       count = omega (arith, g .count, r .count, length-append xs ys);
       list = g .list ∙ written-append w ns k xs ys ∙ rw (r .list, r .count);
@@ -109,7 +112,8 @@ module _ {A : Type 0} (t : Shape A) where
 
   -- ---- counted, then written
 
-  written-all : (ns : List ℕ) (xs : List A) → t .each * length xs ≤ length ns → written t true ns 0 xs ≡ allNumbers t xs ++ drop (length (allNumbers t xs)) ns
+  written-all : (ns : List ℕ) (xs : List A) → t .each * length xs ≤ length ns
+      → written t true ns 0 xs ≡ allNumbers t xs ++ drop (length (allNumbers t xs)) ns
   unfolding written
   written-all ns xs h =
       let z : t .each * 0 ≡ 0 = mul-zero (t .each) in
@@ -124,19 +128,26 @@ module _ {A : Type 0} (t : Shape A) where
     untouched = g .list ∙ write-not ns 0 xs
 
     -- "14 is given when the list holds fewer": nothing is written
-    pub told-short : length ns1 < t .each * r → record { number = 14; count = r; list = ns1 } ≡ listed ns (toldBy (t .numbers) (t .each) 0 (length ns) xs)
+    pub told-short : length ns1 < t .each * r → record { number = 14; count = r; list = ns1 }
+        ≡ listed ns (toldBy (t .numbers) (t .each) 0 (length ns) xs)
     unfolding toldIn toldBy
     told-short h =
         let e : length ns < t .each * length xs = rw (counted, untouched) at h in
-        rw (counted, untouched) (sym (ap (λ (b : Bool). listed ns (toldIn (t .numbers) (firstOf (rule 14 b ∷ [])) xs)) (lt-ltb (length ns) (t .each * length xs) e)))
+        rw (counted, untouched)
+        (sym (ap (λ (b : Bool). listed ns (toldIn (t .numbers) (firstOf (rule 14 b ∷ [])) xs))
+        (lt-ltb (length ns) (t .each * length xs) e)))
 
     module _ (h : t .each * r ≤ length ns1) where
       pub second-space : length xs ≤ 2 ^ 40 → Space t true ns1 0 xs
       second-space few = let e : 0 + length xs ≡ r = omega (arith, counted) in record { few = omega arith; room = λ z. rw e h }
 
-      pub told-all : {ns2 : List ℕ} {r2 : ℕ} → Gathers t true ns1 ns2 0 r2 xs → record { number = 0; count = r; list = ns2 } ≡ listed ns (toldBy (t .numbers) (t .each) 0 (length ns) xs)
+      pub told-all : {ns2 : List ℕ} {r2 : ℕ} → Gathers t true ns1 ns2 0 r2 xs
+          → record { number = 0; count = r; list = ns2 } ≡ listed ns (toldBy (t .numbers) (t .each) 0 (length ns) xs)
       unfolding toldIn toldBy
       told-all {ns2} k =
           let room : t .each * length xs ≤ length ns = rw (counted, untouched) at h in
-          let e : ns2 ≡ allNumbers t xs ++ drop (length (allNumbers t xs)) ns = k .list ∙ ap (λ (ms : List ℕ). written t true ms 0 xs) untouched ∙ written-all ns xs room in
-          rw (counted, e) (sym (ap (λ (b : Bool). listed ns (toldIn (t .numbers) (firstOf (rule 14 b ∷ [])) xs)) (le-ltb (length ns) (t .each * length xs) room)))
+          let e : ns2 ≡ allNumbers t xs ++ drop (length (allNumbers t xs)) ns = k .list
+          ∙ ap (λ (ms : List ℕ). written t true ms 0 xs) untouched ∙ written-all ns xs room in
+          rw (counted, e)
+          (sym (ap (λ (b : Bool). listed ns (toldIn (t .numbers) (firstOf (rule 14 b ∷ [])) xs))
+          (le-ltb (length ns) (t .each * length xs) room)))

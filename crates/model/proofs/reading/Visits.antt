@@ -10,9 +10,11 @@ use Rattle.model.specs.Basic.{flatMap}
 use Rattle.model.specs.declared.Pair.{Pair}
 use Rattle.model.specs.Page.{Page, pairsAt}
 use Rattle.model.specs.Store.{Store, page}
-use Rattle.model.specs.Walk.{rootAt, heightOf, Around, around, wayDown, way, pathDown, lookupVisits, between, followed, rangeBelow, rangePath}
+use Rattle.model.specs.Walk.{rootAt, heightOf, Around, around, wayDown, way, pathDown, lookupVisits, between, followed, rangeBelow}
+use Rattle.model.specs.Walk.{rangePath}
 use Rattle.model.specs.Visited.{pageNumber}
-use Rattle.model.proofs.lists.Members.{In, in-left, in-right}
+use Rattle.model.specs.Inner.{In}
+use Rattle.model.proofs.lists.Members.{in-left, in-right}
 
 -- ---- the root, then the way down
 
@@ -28,19 +30,22 @@ path-lower : (l : ℕ) (ps : List Page) (v k n : ℕ) → pathDown l ps v k n �
 path-lower zero ps v k n = refl
 path-lower (suc l) ps v k n = refl
 
-way-lower : (l : ℕ) (ps : List Page) (v k n : ℕ) (acc : List Around) → reverse (ownPages (wayDown l ps v k n acc)) ≡ reverse (ownPages acc) ++ lower l ps v k n
+way-lower : (l : ℕ) (ps : List Page) (v k n : ℕ) (acc : List Around)
+    → reverse (ownPages (wayDown l ps v k n acc)) ≡ reverse (ownPages acc) ++ lower l ps v k n
 way-lower zero ps v k n acc = sym (append-nil (reverse (ownPages acc)))
 way-lower (suc l) ps v k n acc =
     let a : Around = around k (pairsAt v (page ps n)) in
     let m : ℕ = a .own .value in
-    way-lower l ps v k m (a ∷ acc) ∙ ap (λ (ns : List ℕ). ns ++ lower l ps v k m) (reverse-cons m (ownPages acc)) ∙ append-assoc (reverse (ownPages acc)) (m ∷ []) (lower l ps v k m)
+    way-lower l ps v k m (a ∷ acc) ∙ ap (λ (ns : List ℕ). ns ++ lower l ps v k m) (reverse-cons m (ownPages acc))
+    ∙ append-assoc (reverse (ownPages acc)) (m ∷ []) (lower l ps v k m)
     ∙ ap (λ (ns : List ℕ). reverse (ownPages acc) ++ ns) (sym (path-lower l ps v k m))
 
 -- A lookup visits the root, and then the pages of its way from the top down.
 pub visits-way : (s : Store) (k v : ℕ) → lookupVisits s k v ≡ rootAt (s .slots) v ∷ reverse (ownPages (way s v k))
 visits-way s k v =
     let r : ℕ = rootAt (s .slots) v in
-    path-lower (heightOf (s .pages) r) (s .pages) v k r ∙ ap {B = List ℕ} (λ (ns : List ℕ). r ∷ ns) (sym (way-lower (heightOf (s .pages) r) (s .pages) v k r []))
+    path-lower (heightOf (s .pages) r) (s .pages) v k r
+    ∙ ap {B = List ℕ} (λ (ns : List ℕ). r ∷ ns) (sym (way-lower (heightOf (s .pages) r) (s .pages) v k r []))
 
 -- ---- how many they are, and how they are told
 
@@ -80,7 +85,8 @@ module _ (ps qs : List Page) (u v : ℕ) where
   abbrev below-these : ℕ → ℕ → List Pair → List ℕ
   below-these l hi rs = flatMap (λ (r : Pair). rangePath l ps u hi (r .key) (r .value)) rs
 
-  flat-reads : {A : Type 0} (f g : ℕ → ℕ → List A) (l hi : ℕ) → ((at n : ℕ) → SameOn (rangePath l ps u hi at n) → g at n ≡ f at n) → (rs : List Pair) → SameOn (below-these l hi rs)
+  flat-reads : {A : Type 0} (f g : ℕ → ℕ → List A) (l hi : ℕ) → ((at n : ℕ) → SameOn (rangePath l ps u hi at n) → g at n ≡ f at n)
+      → (rs : List Pair) → SameOn (below-these l hi rs)
       → flatMap (λ (r : Pair). g (r .key) (r .value)) rs ≡ flatMap (λ (r : Pair). f (r .key) (r .value)) rs
   flat-reads f g l hi h [] same = refl
   flat-reads f g l hi h (r ∷ rs) same =
@@ -91,11 +97,13 @@ module _ (ps qs : List Page) (u v : ℕ) where
   range-reads zero lo hi at n same = ap (between lo hi) (same n (inl refl))
   range-reads (suc l) lo hi at n same =
       ap (λ (us : List Pair). flatMap (λ (r : Pair). rangeBelow l qs v lo hi (r .key) (r .value)) (followed at hi us)) (same n (inl refl))
-      ∙ flat-reads (rangeBelow l ps u lo hi) (rangeBelow l qs v lo hi) l hi (range-reads l lo hi) (followed at hi (pairsAt u (page ps n))) (λ m i. same m (inr i))
+      ∙ flat-reads (rangeBelow l ps u lo hi) (rangeBelow l qs v lo hi) l hi (range-reads l lo hi) (followed at hi (pairsAt u (page ps n)))
+      (λ m i. same m (inr i))
 
   pub range-path-reads : (l hi at n : ℕ) → SameOn (rangePath l ps u hi at n) → rangePath l qs v hi at n ≡ rangePath l ps u hi at n
   range-path-reads zero hi at n same = refl
   range-path-reads (suc l) hi at n same =
       ap {B = List ℕ} (λ (ms : List ℕ). n ∷ ms)
       (ap (λ (us : List Pair). flatMap (λ (r : Pair). rangePath l qs v hi (r .key) (r .value)) (followed at hi us)) (same n (inl refl))
-      ∙ flat-reads (rangePath l ps u hi) (rangePath l qs v hi) l hi (range-path-reads l hi) (followed at hi (pairsAt u (page ps n))) (λ m i. same m (inr i)))
+      ∙ flat-reads (rangePath l ps u hi) (rangePath l qs v hi) l hi (range-path-reads l hi) (followed at hi (pairsAt u (page ps n)))
+      (λ m i. same m (inr i)))

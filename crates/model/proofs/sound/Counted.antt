@@ -16,9 +16,10 @@ use Rattle.model.specs.Store.{Store, page, last}
 use Rattle.model.specs.Walk.{keyLimit}
 use Rattle.model.specs.Sound.{isPage, spanOk, entryOk, inside, leadsWell, skipped, liesWell}
 use Rattle.model.specs.Layout.{lives}
+use Rattle.model.specs.ByRule.{Sound}
 use Rattle.model.proofs.lists.Lists.{both-true, all-cons}
 use Rattle.model.proofs.lists.Members.{either-true}
-use Rattle.model.proofs.sound.ByRule.{Span, span-of, old-last, Sound}
+use Rattle.model.proofs.sound.ByRule.{Span, span-of, old-last}
 
 module _ (l size level : ℕ) (low : l ≤ 1048574) where
   pub alive-last : (e : Entry) → entryOk l size level e ≡ true → liveAt l e ≡ lives e
@@ -27,7 +28,9 @@ module _ (l size level : ℕ) (low : l ≤ 1048574) where
       span : Span l (e .start) (e .end)
       span =
           let kind : Bool = pick (eqb level 1) (leb 1 (e .start) && ltb (e .value) 4294967296) (isPage size (e .value)) in
-          span-of l (e .start) (e .end) (both-true (spanOk l (e .start) (e .end)) (ltb (e .key) keyLimit) (both-true (spanOk l (e .start) (e .end) && ltb (e .key) keyLimit) kind ok .0) .0)
+          span-of l (e .start) (e .end)
+          (both-true (spanOk l (e .start) (e .end)) (ltb (e .key) keyLimit)
+          (both-true (spanOk l (e .start) (e .end) && ltb (e .key) keyLimit) kind ok .0) .0)
 
       starts : leb (e .start) l ≡ true
       starts = le-leb (e .start) l (span .starts)
@@ -50,7 +53,8 @@ module _ (l size level : ℕ) (low : l ≤ 1048574) where
 
 -- ---- a page that ended: what stands in it ended with it at the latest, by rule 3, or by the oldest version
 
-none-live : (s : Store) (p : Page) (l : ℕ) → p .end ≤ l → s .oldest ≤ l → (es : List Entry) → all (liesWell s p) es ≡ true → those (liveAt l) es ≡ []
+none-live : (s : Store) (p : Page) (l : ℕ) → p .end ≤ l → s .oldest ≤ l → (es : List Entry) → all (liesWell s p) es ≡ true
+    → those (liveAt l) es ≡ []
 none-live s p l h o [] ok = refl
 none-live s p l h o (e ∷ es) ok =
     let (here, rest) = all-cons (liesWell s p) e es ok in
@@ -59,13 +63,19 @@ none-live s p l h o (e ∷ es) ok =
   where
     ends : (skipped s p e ≡ true) ⊎ ((inside e p && leadsWell s p e) ≡ true) → e .end ≤ l
     ends (inl x) = omega (arith, leb-true (e .end) (s .oldest) (both-true (not (eqb (p .level) 1)) (leb (e .end) (s .oldest)) x .1))
-    ends (inr x) = omega (arith, leb-true (e .end) (p .end) (both-true (leb (p .start) (e .start)) (leb (e .end) (p .end)) (both-true (inside e p) (leadsWell s p e) x .0) .1))
+    ends (inr x) =
+        omega (
+          arith,
+          leb-true (e .end) (p .end)
+              (both-true (leb (p .start) (e .start)) (leb (e .end) (p .end)) (both-true (inside e p) (leadsWell s p e) x .0) .1),
+        )
 
     dead : (b : Bool) → keep (b && false) e (those (liveAt l) es) ≡ those (liveAt l) es
     dead true = refl
     dead false = refl
 
-pub killed-none : (least : ℕ) (s : Store) → Sound least s → (n : ℕ) → isFree (page (s .pages) n) ≡ false → (page (s .pages) n .end ≡ alive → ⊥)
+pub killed-none : (least : ℕ) (s : Store) → Sound least s → (n : ℕ) → isFree (page (s .pages) n) ≡ false
+    → (page (s .pages) n .end ≡ alive → ⊥)
     → those (liveAt (last s)) (page (s .pages) n .entries) ≡ []
 killed-none least s d n u k = at (span-of (last s) (p .start) (p .end) (d .pages n u .span) .ends)
   where

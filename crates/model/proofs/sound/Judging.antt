@@ -14,9 +14,10 @@ use Rattle.model.specs.Layout.{decode, sizeOf}
 use Rattle.model.specs.Clean.{cleanFront, cleanPages, clean}
 use Rattle.model.specs.Counted.{rule8}
 use Rattle.model.specs.Inner.{lowerIn}
-use Rattle.model.specs.Judged.{lengthOk, magicOk, editionOk, brokenIn, verdict, ruled, judged}
+use Rattle.model.specs.Judged.{lengthOk, magicOk, editionOk, brokenIn, verdict, ruled, judged, isSound}
+use Rattle.model.specs.ByRule.{Sound}
 use Rattle.model.proofs.lists.Lists.{both-true}
-use Rattle.model.proofs.sound.ByRule.{Sound, from-tests}
+use Rattle.model.proofs.sound.ByRule.{from-tests}
 
 -- ---- the lowest broken rule
 
@@ -77,7 +78,8 @@ module _ (least : ℕ) (b : List ℕ) where
       wrong : (n : ℕ) → suc n ≡ 0 → ⊥
       wrong n e = omega arith
 
-      at : (c r2 r3 r4 r5 r6 r7 : Bool) → clean least b ≡ c → firstBroken 1 (c ∷ r2 ∷ r3 ∷ r4 ∷ r5 ∷ r6 ∷ r7 ∷ []) ≡ 0 → (c ≡ true) × ((rule1 least s && r2 && r3 && r4 && r5 && r6 && r7) ≡ true)
+      at : (c r2 r3 r4 r5 r6 r7 : Bool) → clean least b ≡ c → firstBroken 1 (c ∷ r2 ∷ r3 ∷ r4 ∷ r5 ∷ r6 ∷ r7 ∷ []) ≡ 0
+          → (c ≡ true) × ((rule1 least s && r2 && r3 && r4 && r5 && r6 && r7) ≡ true)
       at false r2 r3 r4 r5 r6 r7 e q = absurd (wrong 0 q)
       at true false r3 r4 r5 r6 r7 e q = absurd (wrong 1 q)
       at true true false r4 r5 r6 r7 e q = absurd (wrong 2 q)
@@ -94,7 +96,8 @@ module _ (least : ℕ) (b : List ℕ) where
       s : Store
       s = decode least b
 
-      at : (r1 r2 r3 r4 r5 r6 r7 : Bool) → (r1 && r2 && r3 && r4 && r5 && r6 && r7) ≡ true → firstBroken 1 (clean least b ∷ r2 ∷ r3 ∷ r4 ∷ r5 ∷ r6 ∷ r7 ∷ []) ≡ 0
+      at : (r1 r2 r3 r4 r5 r6 r7 : Bool) → (r1 && r2 && r3 && r4 && r5 && r6 && r7) ≡ true
+          → firstBroken 1 (clean least b ∷ r2 ∷ r3 ∷ r4 ∷ r5 ∷ r6 ∷ r7 ∷ []) ≡ 0
       at r1 r2 r3 r4 r5 r6 r7 q =
           let (q6, a7) = both-true (r1 && r2 && r3 && r4 && r5 && r6) r7 q in
           let (q5, a6) = both-true (r1 && r2 && r3 && r4 && r5) r6 q6 in
@@ -116,7 +119,8 @@ module _ (least : ℕ) (b : List ℕ) where
       seven c r2 r3 r4 r5 r6 r7 = firstBroken 1 (c ∷ r2 ∷ r3 ∷ r4 ∷ r5 ∷ r6 ∷ r7 ∷ [])
 
       at : (c r2 r3 r4 r5 r6 r7 r8 : Bool)
-          → firstBroken 1 (c ∷ r2 ∷ r3 ∷ r4 ∷ r5 ∷ r6 ∷ r7 ∷ r8 ∷ []) ≡ pick (eqb (seven c r2 r3 r4 r5 r6 r7) 0) (pick r8 0 8) (seven c r2 r3 r4 r5 r6 r7)
+          → firstBroken 1 (c ∷ r2 ∷ r3 ∷ r4 ∷ r5 ∷ r6 ∷ r7 ∷ r8 ∷ [])
+          ≡ pick (eqb (seven c r2 r3 r4 r5 r6 r7) 0) (pick r8 0 8) (seven c r2 r3 r4 r5 r6 r7)
       at false r2 r3 r4 r5 r6 r7 r8 = refl
       at true false r3 r4 r5 r6 r7 r8 = refl
       at true true false r4 r5 r6 r7 r8 = refl
@@ -181,8 +185,13 @@ accepted least b h = at (lengthOk least b) refl (magicOk b) refl (editionOk leas
 
 pub judged-accepted : (least : ℕ) (b : List ℕ) → Accepted least b → judged least b ≡ verdict 0 0
 unfolding judged
-judged-accepted least b a = rw (a .length-ok, a .magic-ok, a .edition-ok, broken-none least b (whole least b (a .is-clean) (a .is-sound)) (a .is-counted))
+judged-accepted least b a =
+    rw (a .length-ok, a .magic-ok, a .edition-ok, broken-none least b (whole least b (a .is-clean) (a .is-sound)) (a .is-counted))
 
 -- the rules by name
 pub accepted-sound : (least : ℕ) (b : List ℕ) → Accepted least b → Sound least (decode least b)
 accepted-sound least b a = from-tests least (decode least b) (a .is-sound)
+
+pub zero-sound : (least : ℕ) (b : List ℕ) → judged least b .number ≡ 0 → isSound least b ≡ true
+unfolding isSound
+zero-sound least b e = eq-eqb (judged least b .number) 0 e

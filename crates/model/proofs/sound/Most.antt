@@ -17,9 +17,11 @@ use Rattle.model.specs.Page.{Page, isFree, pairsAt}
 use Rattle.model.specs.Store.{Store, page}
 use Rattle.model.specs.Walk.{settings, rootAt, keyLimit}
 use Rattle.model.specs.Sound.{sound}
+use Rattle.model.specs.ByRule.{Readable, Sound}
+use Rattle.model.specs.Tree.{Row, Holds}
 use Rattle.model.proofs.lists.Members.{holds-true, not-both, bool-cases}
-use Rattle.model.proofs.sound.ByRule.{Readable, Sound, from-tests}
-use Rattle.model.proofs.tree.Tree.{Row, Holds, Tree, row-le}
+use Rattle.model.proofs.sound.ByRule.{from-tests}
+use Rattle.model.proofs.tree.Tree.{Tree, row-le}
 use Rattle.model.proofs.tree.Shows.{Shows}
 use Rattle.model.proofs.sound.Ready.{shows-all}
 use Rattle.model.proofs.sound.Count.{tally, leafIn, leaves, leaves-split, tree-count}
@@ -42,14 +44,18 @@ module _ (least w : ℕ) (ps : List Page) (room : ℕ) (few : (m : ℕ) → leng
   abbrev many : ℕ → ℕ → ℕ
   many lo hi = leaves 0 least none w ps lo hi
 
-  row-most : (l : ℕ) → ((lo hi n : ℕ) (xs : List Pair) → Tree least w l ps lo hi n xs → length xs ≤ many lo hi * room) → (hi : ℕ) (rs : List Pair) (lo : ℕ) (zs : List Pair) → Row (Tree least w l ps) hi rs lo zs
+  row-most : (l : ℕ) → ((lo hi n : ℕ) (xs : List Pair) → Tree least w l ps lo hi n xs → length xs ≤ many lo hi * room)
+      → (hi : ℕ) (rs : List Pair) (lo : ℕ) (zs : List Pair) → Row (Tree least w l ps) hi rs lo zs
       → length zs ≤ many lo hi * room
   row-most l f hi [] lo zs t = omega (arith, ap (λ (us : List Pair). length us) (t .nothing))
   row-most l f hi (r ∷ rs) lo zs t =
       let a : length (t .mine) ≤ many lo (t .mid) * room = f lo (t .mid) (r .value) (t .mine) (t .here) in
       let b : length (t .others) ≤ many (t .mid) hi * room = row-most l f hi rs (t .mid) (t .others) (t .rest) in
-      let c : many lo (t .mid) + many (t .mid) hi ≤ many lo hi = leaves-split 0 least none w ps lo (t .mid) hi (omega (arith, t .room)) (row-le (Tree least w l ps) hi rs (t .mid) (t .others) (t .rest)) in
-      let e : length zs ≡ length (t .mine) + length (t .others) = ap (λ (us : List Pair). length us) (t .all-of) ∙ length-append (t .mine) (t .others) in
+      let c : many lo (t .mid) + many (t .mid) hi ≤ many lo hi
+      = leaves-split 0 least none w ps lo (t .mid) hi (omega (arith, t .room))
+      (row-le (Tree least w l ps) hi rs (t .mid) (t .others) (t .rest)) in
+      let e : length zs ≡ length (t .mine) + length (t .others) = ap (λ (us : List Pair). length us) (t .all-of)
+      ∙ length-append (t .mine) (t .others) in
       omega (arith, mul-le-mul-right room c, add-mul (many lo (t .mid)) (many (t .mid) hi) room)
 
   tree-most : (l lo hi n : ℕ) (xs : List Pair) → Tree least w l ps lo hi n xs → length xs ≤ many lo hi * room
@@ -66,14 +72,17 @@ module _ (least w : ℕ) (ps : List Page) (room : ℕ) (few : (m : ℕ) → leng
       at i true e f = absurd (omega (arith, eqb-true (page ps i .level) 1 e, eqb-true (page ps i .level) 0 f))
       at i false e f = rw e
 
-  root-most : (r l : ℕ) (zs : List Pair) → 6 ≤ length ps → ((i : ℕ) → i < 5 → isFree (page ps i) ≡ true) → Holds least w l ps 0 keyLimit (pairsAt w (page ps r)) zs → length zs ≤ (length ps - 5) * room
+  root-most : (r l : ℕ) (zs : List Pair) → 6 ≤ length ps → ((i : ℕ) → i < 5 → isFree (page ps i) ≡ true)
+      → Holds least w l ps 0 keyLimit (pairsAt w (page ps r)) zs → length zs ≤ (length ps - 5) * room
   root-most r zero zs long front h =
       let one : 1 ≤ length ps - 5 = omega arith in
       omega (arith, few r, ap (λ (us : List Pair). length us) (h .same), mul-le-mul-right room one)
-  root-most r (suc l) zs long front h = omega (arith, row-most l (tree-most l) keyLimit (pairsAt w (page ps r)) 0 zs h, mul-le-mul-right room (behind front))
+  root-most r (suc l) zs long front h =
+      omega (arith, row-most l (tree-most l) keyLimit (pairsAt w (page ps r)) 0 zs h, mul-le-mul-right room (behind front))
 
 -- No version of a sound store has more settings than its pages from 5 on have room for.
-pub settings-most : (least : ℕ) → 2 ≤ least → (s : Store) → T (sound least s) → (v : ℕ) → Readable s v → length (settings s v) ≤ (length (s .pages) - 5) * (5 * least)
+pub settings-most : (least : ℕ) → 2 ≤ least → (s : Store) → T (sound least s) → (v : ℕ) → Readable s v
+    → length (settings s v) ≤ (length (s .pages) - 5) * (5 * least)
 settings-most least two s sure v h =
     let shown : Shows least v (s .pages) (rootAt (s .slots) v) (settings s v) = shows-all least two s d v h in
     root-most least v (s .pages) (5 * least) few (rootAt (s .slots) v) (shown .height) (settings s v) (d .long) (d .front) (shown .holds)

@@ -1,5 +1,5 @@
--- What every leaf's entries have, every setting of a sound store has: "a value is any 32 bits", keys are below 16,777,216, and none is alive at
--- version 0, "Version 0 is empty".
+-- What every leaf's entries have, every setting of a sound store has: "a value is any 32 bits", keys are below 16,777,216, and none is
+-- alive at version 0, "Version 0 is empty".
 -- Assumes nothing.
 use Prim.Native.Nat.{ℕ, zero, suc, _≤_}
 use native.Mathlib.Omega.{arith}
@@ -17,17 +17,18 @@ use Rattle.model.specs.Page.{Page, pairsAt}
 use Rattle.model.specs.Store.{Store, page}
 use Rattle.model.specs.Walk.{keyLimit, rootAt, heightOf, settings}
 use Rattle.model.specs.Sound.{isPage}
+use Rattle.model.specs.Remade.{small}
+use Rattle.model.specs.Tree.{Row, Holds}
+use Rattle.model.specs.ByRule.{Readable, Sound}
 use Rattle.model.proofs.lists.Lists.{both-true, both-intro}
 use Rattle.model.proofs.lists.Members.{all-by, in-map, in-those}
 use Rattle.model.proofs.tree.Local.{all-append}
-use Rattle.model.proofs.tree.Tree.{Row, Holds, Tree}
-use Rattle.model.proofs.sound.ByRule.{Readable, Sound, GoodEntry, entry-of}
+use Rattle.model.proofs.tree.Tree.{Tree}
+use Rattle.model.proofs.sound.ByRule.{GoodEntry, entry-of}
 use Rattle.model.proofs.sound.Ready.{level-used, root-level, holds-all}
 
-abbrev pub small : Pair → Bool
-small x = ltb (x .key) keyLimit && ltb (x .value) 4294967296
-
-module _ (least : ℕ) (two : 2 ≤ least) (s : Store) (d : Sound least s) (v : ℕ) (f : Pair → Bool) (entry-so : (p : Page) (e : Entry) → p .level ≡ 1 → GoodEntry s p e → liveAt v e ≡ true → f (pairOf e) ≡ true) where
+module _ (least : ℕ) (two : 2 ≤ least) (s : Store) (d : Sound least s) (v : ℕ) (f : Pair → Bool)
+    (entry-so : (p : Page) (e : Entry) → p .level ≡ 1 → GoodEntry s p e → liveAt v e ≡ true → f (pairOf e) ≡ true) where
   abbrev ps : List Page
   ps = s .pages
 
@@ -38,14 +39,17 @@ module _ (least : ℕ) (two : 2 ≤ least) (s : Store) (d : Sound least s) (v : 
       subst (λ (y : Pair). f y ≡ true) (sym (q .2))
       (entry-so (page ps n) (q .0) one (entry-of least s d n (level-used (page ps n) 0 one) (q .0) (z .1)) (z .0)))
 
-  row-so : (l : ℕ) → ((n lo hi : ℕ) (zs : List Pair) → page ps n .level ≡ suc l → Holds least v l ps lo hi (pairsAt v (page ps n)) zs → all f zs ≡ true)
+  row-so : (l : ℕ)
+      → ((n lo hi : ℕ) (zs : List Pair) → page ps n .level ≡ suc l → Holds least v l ps lo hi (pairsAt v (page ps n)) zs → all f zs ≡ true)
       → (hi : ℕ) (rs : List Pair) (lo : ℕ) (zs : List Pair) → Row (Tree least v l ps) hi rs lo zs → all f zs ≡ true
   row-so l g hi [] lo zs t = subst (λ (us : List Pair). all f us ≡ true) (sym (t .nothing)) refl
   row-so l g hi (x ∷ rs) lo zs t =
       subst (λ (us : List Pair). all f us ≡ true) (sym (t .all-of))
-      (all-append f (t .mine) (t .others) (g (x .value) lo (t .mid) (t .mine) (t .here .level) (t .here .holds)) (row-so l g hi rs (t .mid) (t .others) (t .rest)))
+      (all-append f (t .mine) (t .others) (g (x .value) lo (t .mid) (t .mine) (t .here .level) (t .here .holds))
+      (row-so l g hi rs (t .mid) (t .others) (t .rest)))
 
-  holds-so : (l n lo hi : ℕ) (zs : List Pair) → page ps n .level ≡ suc l → Holds least v l ps lo hi (pairsAt v (page ps n)) zs → all f zs ≡ true
+  holds-so : (l n lo hi : ℕ) (zs : List Pair) → page ps n .level ≡ suc l → Holds least v l ps lo hi (pairsAt v (page ps n)) zs
+      → all f zs ≡ true
   holds-so zero n lo hi zs e h = subst (λ (us : List Pair). all f us ≡ true) (h .same) (leaf-so n e)
   holds-so (suc l) n lo hi zs e h = row-so l (holds-so l) hi (pairsAt v (page ps n)) lo zs h
 
@@ -56,12 +60,15 @@ module _ (least : ℕ) (two : 2 ≤ least) (s : Store) (d : Sound least s) (v : 
 
 -- a leaf's entry
 leaf-entry : (s : Store) (p : Page) (e : Entry) → p .level ≡ 1 → GoodEntry s p e → (leb 1 (e .start) && ltb (e .value) 4294967296) ≡ true
-leaf-entry s p e one g = subst (λ (b : Bool). pick b (leb 1 (e .start) && ltb (e .value) 4294967296) (isPage (length (s .pages)) (e .value)) ≡ true) (eq-eqb (p .level) 1 one) (g .kind)
+leaf-entry s p e one g =
+    subst (λ (b : Bool). pick b (leb 1 (e .start) && ltb (e .value) 4294967296) (isPage (length (s .pages)) (e .value)) ≡ true)
+    (eq-eqb (p .level) 1 one) (g .kind)
 
 pub settings-small : (least : ℕ) → 2 ≤ least → (s : Store) → Sound least s → (v : ℕ) → Readable s v → all small (settings s v) ≡ true
 settings-small least two s d v =
     settings-so least two s d v small
-    (λ p e one g z. both-intro _ _ (lt-ltb (e .key) keyLimit (g .key)) (both-true (leb 1 (e .start)) (ltb (e .value) 4294967296) (leaf-entry s p e one g) .1))
+    (λ p e one g z. both-intro _ _ (lt-ltb (e .key) keyLimit (g .key))
+    (both-true (leb 1 (e .start)) (ltb (e .value) 4294967296) (leaf-entry s p e one g) .1))
 
 -- "a leaf entry's start is at least 1"
 pub none-at-first : (least : ℕ) → 2 ≤ least → (s : Store) → Sound least s → s .oldest ≡ 0 → settings s 0 ≡ []

@@ -10,7 +10,8 @@ use Rattle.model.specs.declared.Pair.{Pair}
 use Rattle.model.specs.Page.{Page, pairsAt}
 use Rattle.model.specs.Store.{page}
 use Rattle.model.specs.Walk.{Seen, seenAs, seenUnder, seenBelow, spread}
-use Rattle.model.proofs.lists.Members.{In, in-left, in-right, in-append}
+use Rattle.model.specs.Inner.{In}
+use Rattle.model.proofs.lists.Members.{in-left, in-right, in-append}
 
 -- what a walk makes of routers, router by router
 pub record Spread {A : Type 0} (f : ℕ → ℕ → ℕ → List A) (a : A) (xs : List Pair) : Type 0 where
@@ -23,20 +24,29 @@ pub record Spread {A : Type 0} (f : ℕ → ℕ → ℕ → List A) (a : A) (xs 
 pub in-spread : {A : Type 0} (f : ℕ → ℕ → ℕ → List A) (a : A) (xs : List Pair) (hi : ℕ) → In a (spread f xs hi) → Spread f a xs
 in-spread f a [] hi i = absurd i
 in-spread f a (x ∷ []) hi i = record { router = x; is-in = inl refl; lo = x .key; hi = hi; made = i }
-in-spread f a (x ∷ y ∷ zs) hi i = at (in-append a (f (x .key) (y .key) (x .value)) (spread f (y ∷ zs) hi) i) (λ j. in-spread f a (y ∷ zs) hi j)
+in-spread f a (x ∷ y ∷ zs) hi i =
+    at (in-append a (f (x .key) (y .key) (x .value)) (spread f (y ∷ zs) hi) i) (λ j. in-spread f a (y ∷ zs) hi j)
   where
-    at : In a (f (x .key) (y .key) (x .value)) ⊎ In a (spread f (y ∷ zs) hi) → (In a (spread f (y ∷ zs) hi) → Spread f a (y ∷ zs)) → Spread f a (x ∷ y ∷ zs)
+    at : In a (f (x .key) (y .key) (x .value)) ⊎ In a (spread f (y ∷ zs) hi) → (In a (spread f (y ∷ zs) hi) → Spread f a (y ∷ zs))
+        → Spread f a (x ∷ y ∷ zs)
     at (inl j) ih = record { router = x; is-in = inl refl; lo = x .key; hi = y .key; made = j }
     at (inr j) ih = let r = ih j in record { router = r .router; is-in = inr (r .is-in); lo = r .lo; hi = r .hi; made = r .made }
 
 -- and back: what every range makes of a router is made
-pub spread-in : {A : Type 0} (f : ℕ → ℕ → ℕ → List A) (P : A → Type 0) (r : Pair) → ((lo hi : ℕ) → (a : A) × (In a (f lo hi (r .value))) × (P a)) → (xs : List Pair) (hi : ℕ) → In r xs
+pub spread-in : {A : Type 0} (f : ℕ → ℕ → ℕ → List A) (P : A → Type 0) (r : Pair)
+    → ((lo hi : ℕ) → (a : A) × (In a (f lo hi (r .value))) × (P a)) → (xs : List Pair) (hi : ℕ) → In r xs
     → (a : A) × (In a (spread f xs hi)) × (P a)
 spread-in f P r g [] hi i = absurd i
-spread-in {A} f P r g (x ∷ []) hi (inl e) = let (a, u, p) = g (x .key) hi in (a, subst (λ (z : Pair). In a (f (x .key) hi (z .value))) e u, p)
+spread-in {A} f P r g (x ∷ []) hi (inl e) =
+    let (a, u, p) = g (x .key) hi in (a, subst (λ (z : Pair). In a (f (x .key) hi (z .value))) e u, p)
 spread-in f P r g (x ∷ []) hi (inr i) = absurd i
 spread-in {A} f P r g (x ∷ y ∷ zs) hi (inl e) =
-    let (a, u, p) = g (x .key) (y .key) in (a, in-left a (f (x .key) (y .key) (x .value)) (spread f (y ∷ zs) hi) (subst (λ (z : Pair). In a (f (x .key) (y .key) (z .value))) e u), p)
+    let (a, u, p) = g (x .key) (y .key) in (
+      a,
+      in-left a (f (x .key) (y .key) (x .value)) (spread f (y ∷ zs) hi)
+          (subst (λ (z : Pair). In a (f (x .key) (y .key) (z .value))) e u),
+      p,
+    )
 spread-in f P r g (x ∷ y ∷ zs) hi (inr i) =
     let (a, u, p) = spread-in f P r g (y ∷ zs) hi i in (a, in-right a (f (x .key) (y .key) (x .value)) (spread f (y ∷ zs) hi) u, p)
 
@@ -64,8 +74,13 @@ module _ (ps : List Page) (v : ℕ) where
   reach-on zero n j m x r i = absurd (omega (arith, r .height))
   reach-on (suc l) n j m x (inl r) i =
       let e : l ≡ j = omega (arith, r .height) in
-      inr (record { router = x; is-in = subst (λ (k : ℕ). In x (pairsAt v (page ps k))) (r .number) i; rest = subst (λ (k : ℕ). Reach l (x .value) k (x .value)) e (reach-self l (x .value)) })
-  reach-on (suc l) n j m x (inr r) i = inr (record { router = r .router; is-in = r .is-in; rest = reach-on l (r .router .value) j m x (r .rest) i })
+      inr (record {
+        router = x;
+        is-in = subst (λ (k : ℕ). In x (pairsAt v (page ps k))) (r .number) i;
+        rest = subst (λ (k : ℕ). Reach l (x .value) k (x .value)) e (reach-self l (x .value));
+      })
+  reach-on (suc l) n j m x (inr r) i =
+      inr (record { router = r .router; is-in = r .is-in; rest = reach-on l (r .router .value) j m x (r .rest) i })
 
   -- the other way round: the last step
   pub record Above (l n j m : ℕ) : Type 0 where
@@ -81,8 +96,22 @@ module _ (ps : List Page) (v : ℕ) where
   last-step (suc l) n j m (inr r) = inr (at (last-step l (r .router .value) j m (r .rest)))
     where
       at : Self l (r .router .value) j m ⊎ Above l (r .router .value) j m → Above (suc l) n j m
-      at (inl z) = record { parent = n; is-reached = inl (record { height = ap suc (z .height); number = refl }); router = r .router; is-in = r .is-in; leads = sym (z .number) }
-      at (inr a) = record { parent = a .parent; is-reached = inr (record { router = r .router; is-in = r .is-in; rest = a .is-reached }); router = a .router; is-in = a .is-in; leads = a .leads }
+      at (inl z) =
+          record {
+            parent = n;
+            is-reached = inl (record { height = ap suc (z .height); number = refl });
+            router = r .router;
+            is-in = r .is-in;
+            leads = sym (z .number);
+          }
+      at (inr a) =
+          record {
+            parent = a .parent;
+            is-reached = inr (record { router = r .router; is-in = r .is-in; rest = a .is-reached });
+            router = a .router;
+            is-in = a .is-in;
+            leads = a .leads;
+          }
 
   -- what is seen is reached
   pub record SeenOk (l n : ℕ) (b : Bool) (x : Seen) : Type 0 where
@@ -99,10 +128,16 @@ module _ (ps : List Page) (v : ℕ) where
           → In x (seenAs l ps v false (s .lo) (s .hi) (s .router .value) ∷ seenUnder l ps v (s .hi) (s .router .value))
           → (In x (seenUnder l ps v (s .hi) (s .router .value)) → SeenOk l (s .router .value) b x) → SeenOk (suc l) n b x
       at s (inl e) ih = record {
-        is-reached = inr (record { router = s .router; is-in = s .is-in; rest = subst (λ (y : Seen). Reach l (s .router .value) (y .up) (y .number)) (sym e) (reach-self l (s .router .value)) });
+        is-reached = inr
+            (record {
+              router = s .router;
+              is-in = s .is-in;
+              rest = subst (λ (y : Seen). Reach l (s .router .value) (y .up) (y .number)) (sym e) (reach-self l (s .router .value));
+            });
         pairs = subst (λ (y : Seen). y .pairs ≡ pairsAt v (page ps (y .number))) (sym e) refl;
       }
-      at s (inr j) ih = let o = ih j in record { is-reached = inr (record { router = s .router; is-in = s .is-in; rest = o .is-reached }); pairs = o .pairs }
+      at s (inr j) ih = let o = ih j in
+          record { is-reached = inr (record { router = s .router; is-in = s .is-in; rest = o .is-reached }); pairs = o .pairs }
 
   pub seen-reached : (l lo hi n : ℕ) (b : Bool) (x : Seen) → In x (seenBelow l ps v b lo hi n) → SeenOk l n b x
   seen-reached l lo hi n b x (inl e) = record {
@@ -122,10 +157,20 @@ module _ (ps : List Page) (v : ℕ) where
   reached-under zero hi n j m r = inl r
   reached-under (suc l) hi n j m (inl r) = inl r
   reached-under (suc l) hi n j m (inr r) =
-      inr (spread-in (λ (lo hi k : ℕ). seenAs l ps v false lo hi k ∷ seenUnder l ps v hi k) (IsSeen j m) (r .router) (λ a b. at a b (reached-under l b (r .router .value) j m (r .rest)))
+      inr (spread-in (λ (lo hi k : ℕ). seenAs l ps v false lo hi k ∷ seenUnder l ps v hi k) (IsSeen j m) (r .router)
+      (λ a b. at a b (reached-under l b (r .router .value) j m (r .rest)))
       (pairsAt v (page ps n)) hi (r .is-in))
     where
       at : (a b : ℕ) → Self l (r .router .value) j m ⊎ ((x : Seen) × (In x (seenUnder l ps v b (r .router .value))) × (IsSeen j m x))
           → (x : Seen) × (In x (seenAs l ps v false a b (r .router .value) ∷ seenUnder l ps v b (r .router .value))) × (IsSeen j m x)
-      at a b (inl z) = (seenAs l ps v false a b (r .router .value), inl refl, record { number = sym (z .number); up = sym (z .height); root = refl; pairs = ap (λ (k : ℕ). pairsAt v (page ps k)) (sym (z .number)) })
+      at a b (inl z) = (
+        seenAs l ps v false a b (r .router .value),
+        inl refl,
+        record {
+          number = sym (z .number);
+          up = sym (z .height);
+          root = refl;
+          pairs = ap (λ (k : ℕ). pairsAt v (page ps k)) (sym (z .number));
+        },
+      )
       at a b (inr z) = (z .0, inr (z .1), z .2)

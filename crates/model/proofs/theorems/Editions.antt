@@ -1,6 +1,7 @@
--- 2026-08: a call goes by the edition lent. `goes`, `refuses`: of anything by edition; `ended-goes`, `ended-refuses`: of every call but making
--- fresh. Bytes that one edition's tests of length, name and edition let pass are of that edition (`of-edition`, `accepted-lent`), and each call
--- on them is the call by its limits (`ended-at`). `old-programs`: programs of edition 1 give 1 or 3 on bytes of edition 2, and never an answer.
+-- 2026-08: a call goes by the edition lent. `goes`, `refuses`: of anything by edition; `ended-goes`, `ended-refuses`: of every call but
+-- making fresh. Bytes that one edition's tests of length, name and edition let pass are of that edition (`of-edition`, `accepted-lent`),
+-- and each call on them is the call by its limits (`ended-at`). `old-programs`: programs of edition 1 give 1 or 3 on bytes of edition 2,
+-- and never an answer.
 -- Assumes nothing.
 use Prim.Native.Nat.{ℕ, zero, suc, _*_, _%_, _≤_}
 use native.Mathlib.Omega.{arith}
@@ -24,7 +25,9 @@ use Rattle.model.specs.State.{untold}
 use Rattle.model.specs.Lent
 use Rattle.model.specs.Any
 use Rattle.model.specs.Any.{judgedAny}
-use Rattle.model.specs.Ended.{Asked, toFresh, toFreshSecond, toCheck, toOpen, toCommit, toAbandon, toInsert, toDelete, toReturn, toPrune, toLookup, toRange, toLife, toDifference, toVisits, Ended, ofOutcome, ofVerdict, ofLooked, ofListed, ended, endedBy, makes, Refuses, toState, ofState}
+use Rattle.model.specs.Ended.{Asked, toFresh, toFreshSecond, toCheck, toOpen, toCommit, toAbandon, toInsert, toDelete, toReturn}
+use Rattle.model.specs.Ended.{toPrune, toLookup, toRange, toLife, toDifference, toVisits, Ended, ofOutcome, ofVerdict, ofLooked}
+use Rattle.model.specs.Ended.{ofListed, ended, endedBy, makes, Refuses, toState, ofState}
 use Rattle.model.proofs.lists.Lists.{both-true}
 use Rattle.model.proofs.sound.Judging.{accepted}
 
@@ -36,7 +39,8 @@ module _ {A : Type 0} (b : List ℕ) (refuse call : ℕ → A) where
   goes = at (ltb (length b) 5) (magicOk b) (editionOk 4 b) (editionOk 8 b)
     where
       at : (p q r s : Bool) → _≡_ {A = ℕ} (pick p 1 (pick q (pick r 0 (pick s 0 3)) 2)) 0
-          → pick p (refuse 1) (pick q (pick r (call 4) (pick s (call 8) (refuse 3))) (refuse 2)) ≡ call (pick p 4 (pick q (pick r 4 (pick s 8 4)) 4))
+          → pick p (refuse 1) (pick q (pick r (call 4) (pick s (call 8) (refuse 3))) (refuse 2))
+          ≡ call (pick p 4 (pick q (pick r 4 (pick s 8 4)) 4))
       at true q r s e = absurd (omega arith)
       at false false r s e = absurd (omega arith)
       at false true true s e = refl
@@ -48,7 +52,8 @@ module _ {A : Type 0} (b : List ℕ) (refuse call : ℕ → A) where
   refuses = at (ltb (length b) 5) (magicOk b) (editionOk 4 b) (editionOk 8 b)
     where
       at : (p q r s : Bool) → _≢_ {A = ℕ} (pick p 1 (pick q (pick r 0 (pick s 0 3)) 2)) 0
-          → pick p (refuse 1) (pick q (pick r (call 4) (pick s (call 8) (refuse 3))) (refuse 2)) ≡ refuse (pick p 1 (pick q (pick r 0 (pick s 0 3)) 2))
+          → pick p (refuse 1) (pick q (pick r (call 4) (pick s (call 8) (refuse 3))) (refuse 2))
+          ≡ refuse (pick p 1 (pick q (pick r 0 (pick s 0 3)) 2))
       at true q r s e = refl
       at false false r s e = refl
       at false true true s e = absurd (e refl)
@@ -82,22 +87,38 @@ least-is b = at (ltb (length b) 5) (magicOk b) (editionOk 4 b) (editionOk 8 b)
 
 module _ (b ns : List ℕ) where
   pub ended-goes : (c : Asked) → makes c ≡ false → lentNumber b ≡ 0 → ended c b ns ≡ endedBy (leastOf b) c b ns
-  unfolding Any.openAny Any.insertAny Any.deleteAny Any.commitAny Any.abandonAny Any.returnAny Any.pruneAny Any.lookupAny Any.rangeAny Any.visitsAny Any.differenceAny Any.lifeAny Any.judgedAny Any.stateAny
+  unfolding Any.openAny Any.insertAny Any.deleteAny Any.commitAny Any.abandonAny Any.returnAny Any.pruneAny Any.lookupAny Any.rangeAny
+      Any.visitsAny Any.differenceAny Any.lifeAny Any.judgedAny Any.stateAny
   ended-goes toFresh m z = cc
   ended-goes toFreshSecond m z = cc
   ended-goes toCheck m z = ap (ofVerdict b ns) (goes {A = Verdict} b (λ (n : ℕ). verdict n 0) (λ (l : ℕ). judged l b) z)
-  ended-goes toOpen m z = ap (ofOutcome ns) (goes {A = Lent.Outcome} b (λ (n : ℕ). record { number = n; store = b }) (λ (l : ℕ). Lent.openLent l b) z)
-  ended-goes toCommit m z = ap (ofOutcome ns) (goes {A = Lent.Outcome} b (λ (n : ℕ). record { number = n; store = b }) (λ (l : ℕ). Lent.commitLent l b) z)
-  ended-goes toAbandon m z = ap (ofOutcome ns) (goes {A = Lent.Outcome} b (λ (n : ℕ). record { number = n; store = b }) (λ (l : ℕ). Lent.abandonLent l b) z)
-  ended-goes (toInsert k x) m z = ap (ofOutcome ns) (goes {A = Lent.Outcome} b (λ (n : ℕ). record { number = n; store = b }) (λ (l : ℕ). Lent.insertLent l b k x) z)
-  ended-goes (toDelete k) m z = ap (ofOutcome ns) (goes {A = Lent.Outcome} b (λ (n : ℕ). record { number = n; store = b }) (λ (l : ℕ). Lent.deleteLent l b k) z)
-  ended-goes (toReturn v) m z = ap (ofOutcome ns) (goes {A = Lent.Outcome} b (λ (n : ℕ). record { number = n; store = b }) (λ (l : ℕ). Lent.returnLent l b v) z)
-  ended-goes (toPrune v) m z = ap (ofOutcome ns) (goes {A = Lent.Outcome} b (λ (n : ℕ). record { number = n; store = b }) (λ (l : ℕ). Lent.pruneLent l b v) z)
+  ended-goes toOpen m z =
+      ap (ofOutcome ns) (goes {A = Lent.Outcome} b (λ (n : ℕ). record { number = n; store = b }) (λ (l : ℕ). Lent.openLent l b) z)
+  ended-goes toCommit m z =
+      ap (ofOutcome ns) (goes {A = Lent.Outcome} b (λ (n : ℕ). record { number = n; store = b }) (λ (l : ℕ). Lent.commitLent l b) z)
+  ended-goes toAbandon m z =
+      ap (ofOutcome ns) (goes {A = Lent.Outcome} b (λ (n : ℕ). record { number = n; store = b }) (λ (l : ℕ). Lent.abandonLent l b) z)
+  ended-goes (toInsert k x) m z =
+      ap (ofOutcome ns) (goes {A = Lent.Outcome} b (λ (n : ℕ). record { number = n; store = b }) (λ (l : ℕ). Lent.insertLent l b k x) z)
+  ended-goes (toDelete k) m z =
+      ap (ofOutcome ns) (goes {A = Lent.Outcome} b (λ (n : ℕ). record { number = n; store = b }) (λ (l : ℕ). Lent.deleteLent l b k) z)
+  ended-goes (toReturn v) m z =
+      ap (ofOutcome ns) (goes {A = Lent.Outcome} b (λ (n : ℕ). record { number = n; store = b }) (λ (l : ℕ). Lent.returnLent l b v) z)
+  ended-goes (toPrune v) m z =
+      ap (ofOutcome ns) (goes {A = Lent.Outcome} b (λ (n : ℕ). record { number = n; store = b }) (λ (l : ℕ). Lent.pruneLent l b v) z)
   ended-goes (toLookup k v) m z = ap (ofLooked b ns) (goes {A = Looked} b (λ (n : ℕ). Refused n) (λ (l : ℕ). Lent.lookupLent l b k v) z)
-  ended-goes (toRange lo hi v) m z = ap (ofListed b) (goes {A = Lent.Listed} b (λ (n : ℕ). record { number = n; count = 0; list = ns }) (λ (l : ℕ). Lent.rangeLent l b lo hi v ns) z)
-  ended-goes (toVisits k v) m z = ap (ofListed b) (goes {A = Lent.Listed} b (λ (n : ℕ). record { number = n; count = 0; list = ns }) (λ (l : ℕ). Lent.visitsLent l b k v ns) z)
-  ended-goes (toDifference u v) m z = ap (ofListed b) (goes {A = Lent.Listed} b (λ (n : ℕ). record { number = n; count = 0; list = ns }) (λ (l : ℕ). Lent.differenceLent l b u v ns) z)
-  ended-goes (toLife k) m z = ap (ofListed b) (goes {A = Lent.Listed} b (λ (n : ℕ). record { number = n; count = 0; list = ns }) (λ (l : ℕ). Lent.lifeLent l b k ns) z)
+  ended-goes (toRange lo hi v) m z =
+      ap (ofListed b)
+      (goes {A = Lent.Listed} b (λ (n : ℕ). record { number = n; count = 0; list = ns }) (λ (l : ℕ). Lent.rangeLent l b lo hi v ns) z)
+  ended-goes (toVisits k v) m z =
+      ap (ofListed b)
+      (goes {A = Lent.Listed} b (λ (n : ℕ). record { number = n; count = 0; list = ns }) (λ (l : ℕ). Lent.visitsLent l b k v ns) z)
+  ended-goes (toDifference u v) m z =
+      ap (ofListed b)
+      (goes {A = Lent.Listed} b (λ (n : ℕ). record { number = n; count = 0; list = ns }) (λ (l : ℕ). Lent.differenceLent l b u v ns) z)
+  ended-goes (toLife k) m z =
+      ap (ofListed b)
+      (goes {A = Lent.Listed} b (λ (n : ℕ). record { number = n; count = 0; list = ns }) (λ (l : ℕ). Lent.lifeLent l b k ns) z)
   ended-goes toState m z = ap (ofState b ns) (goes {A = State} b untold (λ (l : ℕ). Lent.stateLent l b) z)
 
   refused-verdict : (n : ℕ) → Refuses n b ns (ofVerdict b ns (verdict n 0))
@@ -116,32 +137,74 @@ module _ (b ns : List ℕ) where
   refused-state n = record { number = refl; untouched = record { store = refl; list = refl }; zeros = refl }
 
   pub ended-refuses : (c : Asked) → makes c ≡ false → lentNumber b ≢ 0 → Refuses (lentNumber b) b ns (ended c b ns)
-  unfolding Any.openAny Any.insertAny Any.deleteAny Any.commitAny Any.abandonAny Any.returnAny Any.pruneAny Any.lookupAny Any.rangeAny Any.visitsAny Any.differenceAny Any.lifeAny Any.judgedAny Any.stateAny
+  unfolding Any.openAny Any.insertAny Any.deleteAny Any.commitAny Any.abandonAny Any.returnAny Any.pruneAny Any.lookupAny Any.rangeAny
+      Any.visitsAny Any.differenceAny Any.lifeAny Any.judgedAny Any.stateAny
   ended-refuses toFresh m z = absurd (true≢false m)
   ended-refuses toFreshSecond m z = absurd (true≢false m)
-  ended-refuses toCheck m z = subst (λ (x : Verdict). Refuses (lentNumber b) b ns (ofVerdict b ns x)) (sym (refuses {A = Verdict} b (λ (n : ℕ). verdict n 0) (λ (l : ℕ). judged l b) z)) (refused-verdict (lentNumber b))
-  ended-refuses toOpen m z = subst (λ (x : Lent.Outcome). Refuses (lentNumber b) b ns (ofOutcome ns x)) (sym (refuses {A = Lent.Outcome} b (λ (n : ℕ). record { number = n; store = b }) (λ (l : ℕ). Lent.openLent l b) z)) (refused-outcome (lentNumber b))
-  ended-refuses toCommit m z = subst (λ (x : Lent.Outcome). Refuses (lentNumber b) b ns (ofOutcome ns x)) (sym (refuses {A = Lent.Outcome} b (λ (n : ℕ). record { number = n; store = b }) (λ (l : ℕ). Lent.commitLent l b) z)) (refused-outcome (lentNumber b))
-  ended-refuses toAbandon m z = subst (λ (x : Lent.Outcome). Refuses (lentNumber b) b ns (ofOutcome ns x)) (sym (refuses {A = Lent.Outcome} b (λ (n : ℕ). record { number = n; store = b }) (λ (l : ℕ). Lent.abandonLent l b) z)) (refused-outcome (lentNumber b))
-  ended-refuses (toInsert k x) m z = subst (λ (x : Lent.Outcome). Refuses (lentNumber b) b ns (ofOutcome ns x)) (sym (refuses {A = Lent.Outcome} b (λ (n : ℕ). record { number = n; store = b }) (λ (l : ℕ). Lent.insertLent l b k x) z)) (refused-outcome (lentNumber b))
-  ended-refuses (toDelete k) m z = subst (λ (x : Lent.Outcome). Refuses (lentNumber b) b ns (ofOutcome ns x)) (sym (refuses {A = Lent.Outcome} b (λ (n : ℕ). record { number = n; store = b }) (λ (l : ℕ). Lent.deleteLent l b k) z)) (refused-outcome (lentNumber b))
-  ended-refuses (toReturn v) m z = subst (λ (x : Lent.Outcome). Refuses (lentNumber b) b ns (ofOutcome ns x)) (sym (refuses {A = Lent.Outcome} b (λ (n : ℕ). record { number = n; store = b }) (λ (l : ℕ). Lent.returnLent l b v) z)) (refused-outcome (lentNumber b))
-  ended-refuses (toPrune v) m z = subst (λ (x : Lent.Outcome). Refuses (lentNumber b) b ns (ofOutcome ns x)) (sym (refuses {A = Lent.Outcome} b (λ (n : ℕ). record { number = n; store = b }) (λ (l : ℕ). Lent.pruneLent l b v) z)) (refused-outcome (lentNumber b))
-  ended-refuses (toLookup k v) m z = subst (λ (x : Looked). Refuses (lentNumber b) b ns (ofLooked b ns x)) (sym (refuses {A = Looked} b (λ (n : ℕ). Refused n) (λ (l : ℕ). Lent.lookupLent l b k v) z)) (refused-looked (lentNumber b))
-  ended-refuses (toRange lo hi v) m z = subst (λ (x : Lent.Listed). Refuses (lentNumber b) b ns (ofListed b x)) (sym (refuses {A = Lent.Listed} b (λ (n : ℕ). record { number = n; count = 0; list = ns }) (λ (l : ℕ). Lent.rangeLent l b lo hi v ns) z)) (refused-listed (lentNumber b))
-  ended-refuses (toVisits k v) m z = subst (λ (x : Lent.Listed). Refuses (lentNumber b) b ns (ofListed b x)) (sym (refuses {A = Lent.Listed} b (λ (n : ℕ). record { number = n; count = 0; list = ns }) (λ (l : ℕ). Lent.visitsLent l b k v ns) z)) (refused-listed (lentNumber b))
-  ended-refuses (toDifference u v) m z = subst (λ (x : Lent.Listed). Refuses (lentNumber b) b ns (ofListed b x)) (sym (refuses {A = Lent.Listed} b (λ (n : ℕ). record { number = n; count = 0; list = ns }) (λ (l : ℕ). Lent.differenceLent l b u v ns) z)) (refused-listed (lentNumber b))
-  ended-refuses (toLife k) m z = subst (λ (x : Lent.Listed). Refuses (lentNumber b) b ns (ofListed b x)) (sym (refuses {A = Lent.Listed} b (λ (n : ℕ). record { number = n; count = 0; list = ns }) (λ (l : ℕ). Lent.lifeLent l b k ns) z)) (refused-listed (lentNumber b))
-  ended-refuses toState m z = subst (λ (x : State). Refuses (lentNumber b) b ns (ofState b ns x)) (sym (refuses {A = State} b untold (λ (l : ℕ). Lent.stateLent l b) z)) (refused-state (lentNumber b))
+  ended-refuses toCheck m z =
+      subst (λ (x : Verdict). Refuses (lentNumber b) b ns (ofVerdict b ns x))
+      (sym (refuses {A = Verdict} b (λ (n : ℕ). verdict n 0) (λ (l : ℕ). judged l b) z)) (refused-verdict (lentNumber b))
+  ended-refuses toOpen m z =
+      subst (λ (x : Lent.Outcome). Refuses (lentNumber b) b ns (ofOutcome ns x))
+      (sym (refuses {A = Lent.Outcome} b (λ (n : ℕ). record { number = n; store = b }) (λ (l : ℕ). Lent.openLent l b) z))
+      (refused-outcome (lentNumber b))
+  ended-refuses toCommit m z =
+      subst (λ (x : Lent.Outcome). Refuses (lentNumber b) b ns (ofOutcome ns x))
+      (sym (refuses {A = Lent.Outcome} b (λ (n : ℕ). record { number = n; store = b }) (λ (l : ℕ). Lent.commitLent l b) z))
+      (refused-outcome (lentNumber b))
+  ended-refuses toAbandon m z =
+      subst (λ (x : Lent.Outcome). Refuses (lentNumber b) b ns (ofOutcome ns x))
+      (sym (refuses {A = Lent.Outcome} b (λ (n : ℕ). record { number = n; store = b }) (λ (l : ℕ). Lent.abandonLent l b) z))
+      (refused-outcome (lentNumber b))
+  ended-refuses (toInsert k x) m z =
+      subst (λ (x : Lent.Outcome). Refuses (lentNumber b) b ns (ofOutcome ns x))
+      (sym (refuses {A = Lent.Outcome} b (λ (n : ℕ). record { number = n; store = b }) (λ (l : ℕ). Lent.insertLent l b k x) z))
+      (refused-outcome (lentNumber b))
+  ended-refuses (toDelete k) m z =
+      subst (λ (x : Lent.Outcome). Refuses (lentNumber b) b ns (ofOutcome ns x))
+      (sym (refuses {A = Lent.Outcome} b (λ (n : ℕ). record { number = n; store = b }) (λ (l : ℕ). Lent.deleteLent l b k) z))
+      (refused-outcome (lentNumber b))
+  ended-refuses (toReturn v) m z =
+      subst (λ (x : Lent.Outcome). Refuses (lentNumber b) b ns (ofOutcome ns x))
+      (sym (refuses {A = Lent.Outcome} b (λ (n : ℕ). record { number = n; store = b }) (λ (l : ℕ). Lent.returnLent l b v) z))
+      (refused-outcome (lentNumber b))
+  ended-refuses (toPrune v) m z =
+      subst (λ (x : Lent.Outcome). Refuses (lentNumber b) b ns (ofOutcome ns x))
+      (sym (refuses {A = Lent.Outcome} b (λ (n : ℕ). record { number = n; store = b }) (λ (l : ℕ). Lent.pruneLent l b v) z))
+      (refused-outcome (lentNumber b))
+  ended-refuses (toLookup k v) m z =
+      subst (λ (x : Looked). Refuses (lentNumber b) b ns (ofLooked b ns x))
+      (sym (refuses {A = Looked} b (λ (n : ℕ). Refused n) (λ (l : ℕ). Lent.lookupLent l b k v) z)) (refused-looked (lentNumber b))
+  ended-refuses (toRange lo hi v) m z =
+      subst (λ (x : Lent.Listed). Refuses (lentNumber b) b ns (ofListed b x))
+      (sym (refuses {A = Lent.Listed} b (λ (n : ℕ). record { number = n; count = 0; list = ns })
+      (λ (l : ℕ). Lent.rangeLent l b lo hi v ns) z)) (refused-listed (lentNumber b))
+  ended-refuses (toVisits k v) m z =
+      subst (λ (x : Lent.Listed). Refuses (lentNumber b) b ns (ofListed b x))
+      (sym (refuses {A = Lent.Listed} b (λ (n : ℕ). record { number = n; count = 0; list = ns }) (λ (l : ℕ). Lent.visitsLent l b k v ns) z))
+      (refused-listed (lentNumber b))
+  ended-refuses (toDifference u v) m z =
+      subst (λ (x : Lent.Listed). Refuses (lentNumber b) b ns (ofListed b x))
+      (sym (refuses {A = Lent.Listed} b (λ (n : ℕ). record { number = n; count = 0; list = ns })
+      (λ (l : ℕ). Lent.differenceLent l b u v ns) z)) (refused-listed (lentNumber b))
+  ended-refuses (toLife k) m z =
+      subst (λ (x : Lent.Listed). Refuses (lentNumber b) b ns (ofListed b x))
+      (sym (refuses {A = Lent.Listed} b (λ (n : ℕ). record { number = n; count = 0; list = ns }) (λ (l : ℕ). Lent.lifeLent l b k ns) z))
+      (refused-listed (lentNumber b))
+  ended-refuses toState m z =
+      subst (λ (x : State). Refuses (lentNumber b) b ns (ofState b ns x))
+      (sym (refuses {A = State} b untold (λ (l : ℕ). Lent.stateLent l b) z)) (refused-state (lentNumber b))
 
   -- what holds of the call by each edition's limits, and of a refusal, holds of the call
   pub ended-either : (P : Ended → Type 0) (c : Asked) → ((least : ℕ) → IsEdition least → P (endedBy least c b ns))
       → ((n : ℕ) → n ≢ 0 → (e : Ended) → Refuses n b ns e → P e) → P (ended c b ns)
   ended-either P c by early = at c (makes c) refl by
     where
-      told : (c : Asked) → makes c ≡ false → (n : ℕ) → lentNumber b ≡ n → ((least : ℕ) → IsEdition least → P (endedBy least c b ns)) → P (ended c b ns)
+      told : (c : Asked) → makes c ≡ false → (n : ℕ) → lentNumber b ≡ n → ((least : ℕ) → IsEdition least → P (endedBy least c b ns))
+          → P (ended c b ns)
       told c m zero z by = subst P (sym (ended-goes c m z)) (by (leastOf b) (least-is b))
-      told c m (suc n) z by = let h : lentNumber b ≢ 0 = λ q. absurd (omega arith) in early (lentNumber b) h (ended c b ns) (ended-refuses c m h)
+      told c m (suc n) z by =
+          let h : lentNumber b ≢ 0 = λ q. absurd (omega arith) in early (lentNumber b) h (ended c b ns) (ended-refuses c m h)
 
       at : (c : Asked) (m : Bool) → makes c ≡ m → ((least : ℕ) → IsEdition least → P (endedBy least c b ns)) → P (ended c b ns)
       at c false m by = told c m (lentNumber b) refl by
@@ -181,7 +244,10 @@ of-edition least (inr i) b h m e =
 
 pub long-enough : (least : ℕ) → IsEdition least → (b : List ℕ) → lengthOk least b ≡ true → 5 ≤ length b
 unfolding lengthOk
-long-enough least i b e = by i (leb-true 6 (sizeOf least b) (both-true (eqb (length b % (64 * least)) 0) (leb 6 (sizeOf least b)) (both-true (eqb (length b % (64 * least)) 0 && leb 6 (sizeOf least b)) (leb (sizeOf least b) 4096) e .0) .1))
+long-enough least i b e =
+    by i (leb-true 6 (sizeOf least b)
+    (both-true (eqb (length b % (64 * least)) 0) (leb 6 (sizeOf least b))
+    (both-true (eqb (length b % (64 * least)) 0 && leb 6 (sizeOf least b)) (leb (sizeOf least b) 4096) e .0) .1))
   where
     by : IsEdition least → 6 ≤ sizeOf least b → 5 ≤ length b
     by (inl f) h = let g : 6 ≤ sizeOf 4 b = subst (λ (n : ℕ). 6 ≤ sizeOf n b) f h in omega arith
@@ -206,7 +272,8 @@ accepts-any b = at (lentNumber b) refl
     at : (n : ℕ) → lentNumber b ≡ n → Any.judgedAny b .number ≡ 0 → (lentNumber b ≡ 0) × (judged (leastOf b) b .number ≡ 0)
     at zero z e = (z, subst (λ (v : Verdict). v .number ≡ 0) (goes b (λ (n : ℕ). verdict n 0) (λ (l : ℕ). judged l b) z) e)
     at (suc n) z e =
-        let q = subst (λ (v : Verdict). v .number ≡ 0) (refuses b (λ (n : ℕ). verdict n 0) (λ (l : ℕ). judged l b) (λ y. absurd (omega arith))) e in
+        let q = subst (λ (v : Verdict). v .number ≡ 0)
+        (refuses b (λ (n : ℕ). verdict n 0) (λ (l : ℕ). judged l b) (λ y. absurd (omega arith))) e in
         absurd (omega arith)
 
 -- bytes of an edition have the name, and the edition's number
@@ -221,7 +288,9 @@ lends-names least b l = at (ltb (length b) 5) (magicOk b) (editionOk 4 b) (editi
 
 pub lends-edition : (least : ℕ) (b : List ℕ) → Lends least b → editionOk least b ≡ true
 unfolding byEdition
-lends-edition least b l = subst (λ (n : ℕ). editionOk n b ≡ true) (l .is) (at (ltb (length b) 5) (magicOk b) (editionOk 4 b) refl (editionOk 8 b) refl (l .number))
+lends-edition least b l =
+    subst (λ (n : ℕ). editionOk n b ≡ true) (l .is)
+    (at (ltb (length b) 5) (magicOk b) (editionOk 4 b) refl (editionOk 8 b) refl (l .number))
   where
     at : (p q r : Bool) → editionOk 4 b ≡ r → (s : Bool) → editionOk 8 b ≡ s → _≡_ {A = ℕ} (pick p 1 (pick q (pick r 0 (pick s 0 3)) 2)) 0
         → editionOk (pick p 4 (pick q (pick r 4 (pick s 8 4)) 4)) b ≡ true

@@ -31,7 +31,8 @@ sound-broken-by a b c d e f g h =
 pub sound-unbroken : (least : ℕ) (s : Store) → T (sound least s) → broken least s ≡ 0
 unfolding sound broken
 sound-unbroken least s sure =
-    sound-broken-by (rule1 least s) (rule2 s) (rule3 s) (rule4 s) (rule5 least s) (rule6 s) (rule7 s) (holds-true (rule1 least s && rule2 s && rule3 s && rule4 s && rule5 least s && rule6 s && rule7 s) sure)
+    sound-broken-by (rule1 least s) (rule2 s) (rule3 s) (rule4 s) (rule5 least s) (rule6 s) (rule7 s)
+    (holds-true (rule1 least s && rule2 s && rule3 s && rule4 s && rule5 least s && rule6 s && rule7 s) sure)
 
 broken-by : (a b c d e f g : Bool) → firstBroken 1 (a ∷ b ∷ c ∷ d ∷ e ∷ f ∷ g ∷ []) ≡ 0 → (a && b && c && d && e && f && g) ≡ true
 broken-by true true true true true true true h = refl
@@ -45,14 +46,18 @@ broken-by false b c d e f g h = absurd (omega arith)
 
 pub unbroken-sound : (least : ℕ) (s : Store) → broken least s ≡ 0 → T (sound least s)
 unfolding sound broken
-unbroken-sound least s h = true-holds (rule1 least s && rule2 s && rule3 s && rule4 s && rule5 least s && rule6 s && rule7 s) (broken-by (rule1 least s) (rule2 s) (rule3 s) (rule4 s) (rule5 least s) (rule6 s) (rule7 s) h)
+unbroken-sound least s h =
+    true-holds (rule1 least s && rule2 s && rule3 s && rule4 s && rule5 least s && rule6 s && rule7 s)
+    (broken-by (rule1 least s) (rule2 s) (rule3 s) (rule4 s) (rule5 least s) (rule6 s) (rule7 s) h)
 
 -- the tables' runs are the history's
-run-same : (least : ℕ) (cs : List Call) (x : After) (m : Machine) → run least x cs .store ≡ together least (record { store = x .store; machine = m }) cs .store
+run-same : (least : ℕ) (cs : List Call) (x : After) (m : Machine)
+    → run least x cs .store ≡ together least (record { store = x .store; machine = m }) cs .store
 run-same least [] x m = refl
 run-same least (c ∷ cs) x m = at (callBy least (x .store) c) (λ y n. run-same least cs y n)
   where
-    at : (r : Came) → ((y : After) (n : Machine) → run least y cs .store ≡ together least (record { store = y .store; machine = n }) cs .store)
+    at : (r : Came)
+        → ((y : After) (n : Machine) → run least y cs .store ≡ together least (record { store = y .store; machine = n }) cs .store)
         → run least (after (x .store) r) cs .store ≡ together least (onward (record { store = x .store; machine = m }) c r) cs .store
     at (gave (done t)) ih = ih (record { number = 0; store = t }) _
     at (gave (refused i)) ih = ih (record { number = i; store = x .store }) m

@@ -20,7 +20,9 @@ use Rattle.model.specs.Near.{early, fromRoot, downRight, rangeRight}
 use Rattle.model.specs.Calls
 use Rattle.model.specs.Calls.{Rule, rule, firstOf, unreadable}
 use Rattle.model.specs.Lent
-use Rattle.model.specs.Ended.{Asked, toFresh, toFreshSecond, toCheck, toOpen, toCommit, toAbandon, toInsert, toDelete, toReturn, toPrune, toLookup, toRange, toLife, toDifference, toVisits, Ended, ofLooked, ofListed, endedBy, makes, Refuses, toState}
+use Rattle.model.specs.Ended.{Asked, toFresh, toFreshSecond, toCheck, toOpen, toCommit, toAbandon, toInsert, toDelete, toReturn}
+use Rattle.model.specs.Ended.{toPrune, toLookup, toRange, toLife, toDifference, toVisits, Ended, ofLooked, ofListed, endedBy, makes}
+use Rattle.model.specs.Ended.{Refuses, toState}
 use Rattle.model.proofs.theorems.Editions.{Lends, lends-names, lends-second}
 
 -- all calls but making fresh; prune, which edition 1 does not have; and lookup and range, which judge what they read
@@ -59,13 +61,15 @@ module _ (b ns : List ℕ) (l : Lends 8 b) where
   early-old : (rs : List Rule) → (firstOf (early 4 b rs) ≡ 1) ⊎ (firstOf (early 4 b rs) ≡ 3)
   early-old rs = rw (lends-names 8 b l, lends-second b l) (at (lengthOk 4 b))
     where
-      at : (p : Bool) → (firstOf (rule 1 (not p) ∷ rule 2 false ∷ rule 3 true ∷ rs) ≡ 1) ⊎ (firstOf (rule 1 (not p) ∷ rule 2 false ∷ rule 3 true ∷ rs) ≡ 3)
+      at : (p : Bool) → (firstOf (rule 1 (not p) ∷ rule 2 false ∷ rule 3 true ∷ rs) ≡ 1)
+          ⊎ (firstOf (rule 1 (not p) ∷ rule 2 false ∷ rule 3 true ∷ rs) ≡ 3)
       at true = inr refl
       at false = inl refl
 
   -- a call that judges the whole store gives the number of check
   whole : (c : Asked) (n : ℕ) → judged 4 b ≡ verdict (suc n) 0 → judgesWhole c ≡ true → Refuses (suc n) b ns (endedBy 4 c b ns)
-  unfolding Lent.openLent Lent.commitLent Lent.abandonLent Lent.insertLent Lent.deleteLent Lent.lent Lent.returnLent Lent.visitsLent Lent.differenceLent Lent.lifeLent Lent.stateLent
+  unfolding Lent.openLent Lent.commitLent Lent.abandonLent Lent.insertLent Lent.deleteLent Lent.lent Lent.returnLent Lent.visitsLent
+      Lent.differenceLent Lent.lifeLent Lent.stateLent
   whole toCheck n e j = rw e (record { number = refl; untouched = record { store = refl; list = refl }; zeros = refl })
   whole toOpen n e j = rw e (record { number = refl; untouched = record { store = refl; list = refl }; zeros = refl })
   whole toCommit n e j = rw e (record { number = refl; untouched = record { store = refl; list = refl }; zeros = refl })
@@ -108,7 +112,8 @@ module _ (b ns : List ℕ) (l : Lends 8 b) where
   old-programs (toRange lo hi v) m =
       ranged _ (length ns) (rangeOf (decode 4 b) lo hi v)
       (early-old
-      (rule 5 (leb keyLimit lo || leb keyLimit hi || ltb hi lo) ∷ rule 6 (unreadable (decode 4 b) v) ∷ rule 4 (not (fromRoot 4 b v (λ up n. rangeRight 4 b v up hi lo n))) ∷ []))
+      (rule 5 (leb keyLimit lo || leb keyLimit hi || ltb hi lo) ∷ rule 6 (unreadable (decode 4 b) v) ∷ rule 4
+      (not (fromRoot 4 b v (λ up n. rangeRight 4 b v up hi lo n))) ∷ []))
   old-programs toCheck m = by-whole toCheck refl
   old-programs toOpen m = by-whole toOpen refl
   old-programs toCommit m = by-whole toCommit refl

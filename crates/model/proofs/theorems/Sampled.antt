@@ -12,8 +12,9 @@ use Rattle.model.specs.Sound.{sound}
 use Rattle.model.specs.Samples.{twoLevels, fromElsewhere}
 use Rattle.model.specs.Proved.{two-levels-sound, from-elsewhere-sound}
 use Rattle.model.specs.Settings.{lent}
+use Rattle.model.specs.ByRule.{Sound}
 use Rattle.model.proofs.lists.Members.{holds-true}
-use Rattle.model.proofs.sound.ByRule.{Sound, from-tests}
+use Rattle.model.proofs.sound.ByRule.{from-tests}
 use Rattle.model.proofs.older.Undo.{UndoReady}
 use Rattle.model.proofs.tree.UpdateChanges.{Fit}
 use Rattle.model.proofs.sound.Ready.{ready, fit-insert, fit-delete}

@@ -1,5 +1,6 @@
 -- The calls on lent bytes, taken as one. `unique`: no second outcome meets a call's contract. `refused`: every number but 0 leaves
--- store and list untouched, but for a return's 12 and 13. `blank`: with such a number every result is 0, but for check's rule with 4 and the count of a call that tells a list with 14.
+-- store and list untouched, but for a return's 12 and 13. `blank`: with such a number every result is 0, but for check's rule with 4 and
+-- the count of a call that tells a list with 14.
 -- Assumes nothing.
 use Prim.Native.Nat.{ℕ, zero, suc, _*_}
 use mathlib.Core.Bool.{Bool, true, false}
@@ -31,9 +32,13 @@ use Rattle.model.specs.State.{stateNumbers, untold}
 use Rattle.model.specs.Near
 use Rattle.model.specs.Return
 use Rattle.model.specs.Return.{Ran, reached, stopped, carried, Came, gave, gaveUp, lacking, orAbandoned, returnTests, unless}
-use Rattle.model.specs.Ended.{Asked, toFresh, toFreshSecond, toCheck, toOpen, toCommit, toAbandon, toInsert, toDelete, toReturn, toPrune, toLookup, toRange, toLife, toDifference, toVisits, Ended, endedBy, Meets, Untouched, Excepted, Named, Zeros, toState}
+use Rattle.model.specs.Ended.{Asked, toFresh, toFreshSecond, toCheck, toOpen, toCommit, toAbandon, toInsert, toDelete, toReturn}
+use Rattle.model.specs.Ended.{toPrune, toLookup, toRange, toLife, toDifference, toVisits, Ended, endedBy, Meets, Untouched, Excepted}
+use Rattle.model.specs.Ended.{Named, Zeros, toState}
 use Rattle.model.specs.Lent
-use Rattle.model.specs.Lent.{Outcome, Listed, listed, left, leftBy, judgedFirst, openLent, insertLent, deleteLent, commitLent, abandonLent, returnLent, pruneLent, freshLent, lookupLent, rangeLent, lifeLent, differenceLent, visitsLent, stateLent}
+use Rattle.model.specs.Lent.{Outcome, Listed, listed, left, leftBy, judgedFirst, openLent, insertLent, deleteLent, commitLent}
+use Rattle.model.specs.Lent.{abandonLent, returnLent, pruneLent, freshLent, lookupLent, rangeLent, lifeLent, differenceLent}
+use Rattle.model.specs.Lent.{visitsLent, stateLent}
 use Rattle.model.proofs.kept.Stops.{lacking-is}
 use Rattle.model.proofs.theorems.Editions.{ended-either}
 
@@ -79,10 +84,12 @@ module _ (least : ℕ) (b : List ℕ) where
   unfolding Lent.returnLent Return.returned
   return-same v = at (judged least b .number)
     where
-      at : (n : ℕ) → ReturnSame b (judgedFirst n (λ m. record { number = m; store = b }) (leftBy least b (Return.returned least (decode least b) v)))
+      at : (n : ℕ) → ReturnSame b
+          (judgedFirst n (λ m. record { number = m; store = b }) (leftBy least b (Return.returned least (decode least b) v)))
       at zero =
           unless-same (firstOf (returnTests (decode least b .oldest) (decode least b .current) (decode least b .opened) v)) _
-          (run-same (carried least (Differ.differ (settings (decode least b) (next (decode least b))) (settings (decode least b) v)) (decode least b)))
+          (run-same (carried least (Differ.differ (settings (decode least b) (next (decode least b))) (settings (decode least b) v))
+          (decode least b)))
       at (suc n) = λ h x. refl
 
 prune-same : (least : ℕ) (b : List ℕ) (v : ℕ) → StoreSame b (pruneLent least b v)
@@ -97,7 +104,8 @@ fresh-same : (least : ℕ) (b : List ℕ) → StoreSame b (freshLent least b)
 unfolding Lent.freshLent
 fresh-same least b = at (lengthOk least b)
   where
-    at : (t : Bool) → StoreSame b (pick t (record { number = 0; store = encode least (fresh (sizeOf least b)) }) (record { number = 1; store = b }))
+    at : (t : Bool)
+        → StoreSame b (pick t (record { number = 0; store = encode least (fresh (sizeOf least b)) }) (record { number = 1; store = b }))
     at true h = absurd (h refl)
     at false h = refl
 
@@ -135,7 +143,8 @@ visits-same : (least : ℕ) (b : List ℕ) (k v : ℕ) (ns : List ℕ) → ListS
 unfolding Lent.visitsLent Visited.visits
 visits-same least b k v ns = at (judged least b .number)
   where
-    at : (n : ℕ) → ListSame ns (judgedFirst n (λ m. record { number = m; count = 0; list = ns }) (listed ns (Visited.visits (decode least b) k v (length ns))))
+    at : (n : ℕ) → ListSame ns
+        (judgedFirst n (λ m. record { number = m; count = 0; list = ns }) (listed ns (Visited.visits (decode least b) k v (length ns))))
     at zero = told-same _ 1 ns _ _
     at (suc n) = λ h. refl
 
@@ -143,7 +152,8 @@ difference-same : (least : ℕ) (b : List ℕ) (u v : ℕ) (ns : List ℕ) → L
 unfolding Lent.differenceLent Differ.difference
 difference-same least b u v ns = at (judged least b .number)
   where
-    at : (n : ℕ) → ListSame ns (judgedFirst n (λ m. record { number = m; count = 0; list = ns }) (listed ns (Differ.difference (decode least b) u v (length ns))))
+    at : (n : ℕ) → ListSame ns
+        (judgedFirst n (λ m. record { number = m; count = 0; list = ns }) (listed ns (Differ.difference (decode least b) u v (length ns))))
     at zero = told-same _ 4 ns _ _
     at (suc n) = λ h. refl
 
@@ -151,11 +161,13 @@ life-same : (least : ℕ) (b : List ℕ) (k : ℕ) (ns : List ℕ) → ListSame 
 unfolding Lent.lifeLent Life.lived
 life-same least b k ns = at (judged least b .number)
   where
-    at : (n : ℕ) → ListSame ns (judgedFirst n (λ m. record { number = m; count = 0; list = ns }) (listed ns (Life.lived (decode least b) k (length ns))))
+    at : (n : ℕ) → ListSame ns
+        (judgedFirst n (λ m. record { number = m; count = 0; list = ns }) (listed ns (Life.lived (decode least b) k (length ns))))
     at zero = told-same Life.stretchNumbers 3 ns _ _
     at (suc n) = λ h. refl
 
-leaves : (least : ℕ) (c : Asked) (b ns : List ℕ) → endedBy least c b ns .number ≢ 0 → (Excepted c (endedBy least c b ns .number) → ⊥) → Untouched b ns (endedBy least c b ns)
+leaves : (least : ℕ) (c : Asked) (b ns : List ℕ) → endedBy least c b ns .number ≢ 0 → (Excepted c (endedBy least c b ns .number) → ⊥)
+    → Untouched b ns (endedBy least c b ns)
 unfolding Lent.openLent Lent.commitLent Lent.abandonLent Lent.insertLent Lent.deleteLent
 leaves least toFresh b ns h x = record { store = fresh-same least b h; list = refl }
 leaves least toFreshSecond b ns h x = record { store = fresh-same least b h; list = refl }
@@ -236,7 +248,8 @@ visits-blank : (least : ℕ) (b : List ℕ) (i v : ℕ) (ns : List ℕ) → List
 unfolding Lent.visitsLent Visited.visits
 visits-blank least b i v ns = at (judged least b .number)
   where
-    at : (n : ℕ) → ListedBlank (judgedFirst n (λ m. record { number = m; count = 0; list = ns }) (listed ns (Visited.visits (decode least b) i v (length ns))))
+    at : (n : ℕ) → ListedBlank
+        (judgedFirst n (λ m. record { number = m; count = 0; list = ns }) (listed ns (Visited.visits (decode least b) i v (length ns))))
     at zero = told-blank _ 1 _ (length ns) _
     at (suc n) = λ h k. refl
 
@@ -244,7 +257,8 @@ difference-blank : (least : ℕ) (b : List ℕ) (u v : ℕ) (ns : List ℕ) → 
 unfolding Lent.differenceLent Differ.difference
 difference-blank least b u v ns = at (judged least b .number)
   where
-    at : (n : ℕ) → ListedBlank (judgedFirst n (λ m. record { number = m; count = 0; list = ns }) (listed ns (Differ.difference (decode least b) u v (length ns))))
+    at : (n : ℕ) → ListedBlank
+        (judgedFirst n (λ m. record { number = m; count = 0; list = ns }) (listed ns (Differ.difference (decode least b) u v (length ns))))
     at zero = told-blank _ 4 _ (length ns) _
     at (suc n) = λ h k. refl
 
@@ -252,7 +266,8 @@ life-blank : (least : ℕ) (b : List ℕ) (k : ℕ) (ns : List ℕ) → ListedBl
 unfolding Lent.lifeLent Life.lived
 life-blank least b k ns = at (judged least b .number)
   where
-    at : (n : ℕ) → ListedBlank (judgedFirst n (λ m. record { number = m; count = 0; list = ns }) (listed ns (Life.lived (decode least b) k (length ns))))
+    at : (n : ℕ) → ListedBlank
+        (judgedFirst n (λ m. record { number = m; count = 0; list = ns }) (listed ns (Life.lived (decode least b) k (length ns))))
     at zero = told-blank Life.stretchNumbers 3 _ (length ns) _
     at (suc n) = λ h k. refl
 
@@ -267,7 +282,8 @@ state-blank least b = at (judged least b .number)
 zero-one : (x : ℕ) → x ≡ 0 → Zeros (x ∷ [])
 zero-one x e = rw e
 
-blanks : (least : ℕ) (c : Asked) (b ns : List ℕ) → endedBy least c b ns .number ≢ 0 → (Named c (endedBy least c b ns .number) → ⊥) → Zeros (endedBy least c b ns .results)
+blanks : (least : ℕ) (c : Asked) (b ns : List ℕ) → endedBy least c b ns .number ≢ 0 → (Named c (endedBy least c b ns .number) → ⊥)
+    → Zeros (endedBy least c b ns .results)
 blanks least toFresh b ns h k = refl
 blanks least toFreshSecond b ns h k = refl
 blanks least toCheck b ns h k = zero-one _ (check-blank least b h k)

@@ -15,21 +15,27 @@ use Rattle.model.specs.Page.{Page, pairsAt}
 use Rattle.model.specs.Store.{page}
 use Rattle.model.specs.Sound.{keysOk, startsAt, fewest}
 use Rattle.model.specs.Walk.{Seen, seenAs, seenUnder, seenBelow, spread, below, keyLimit}
+use Rattle.model.specs.Tree.{Row, Holds, inRange}
 use Rattle.model.proofs.lists.Lists.{both-true, both-intro, all-cons}
-use Rattle.model.proofs.tree.Tree.{Row, Holds, Tree}
-use Rattle.model.proofs.tree.Local.{inRange, all-left, all-right}
+use Rattle.model.proofs.tree.Tree.{Tree}
+use Rattle.model.proofs.tree.Local.{all-left, all-right}
 use Rattle.model.proofs.tree.Shows.{Some, tree-of}
 
 abbrev pub passesAt : ℕ → Seen → Bool
 passesAt least x = keysOk x && leb (fewest least (x .isRoot) (x .up)) (length (x .pairs))
 
 module _ (least : ℕ) (two-or-more : 2 ≤ least) (v : ℕ) (ps : List Page)
-    (levels : (m l : ℕ) → page ps m .level ≡ suc (suc l) → all (λ (r : Pair). eqb (page ps (r .value) .level) (suc l) && within (page ps (r .value) .start) (page ps (r .value) .end) v) (pairsAt v (page ps m)) ≡ true) where
+    (levels : (m l : ℕ) → page ps m .level ≡ suc (suc l)
+    → all (λ (r : Pair). eqb (page ps (r .value) .level) (suc l) && within (page ps (r .value) .start) (page ps (r .value) .end) v)
+    (pairsAt v (page ps m)) ≡ true) where
   abbrev kid : ℕ → Pair → Bool
   kid l r = eqb (page ps (r .value) .level) (suc l) && within (page ps (r .value) .start) (page ps (r .value) .end) v
 
-  kid-of : (l : ℕ) (r : Pair) → kid l r ≡ true → (page ps (r .value) .level ≡ suc l) × (within (page ps (r .value) .start) (page ps (r .value) .end) v ≡ true)
-  kid-of l r h = let (a, b) = both-true (eqb (page ps (r .value) .level) (suc l)) (within (page ps (r .value) .start) (page ps (r .value) .end) v) h in (eqb-true _ _ a, b)
+  kid-of : (l : ℕ) (r : Pair) → kid l r ≡ true → (page ps (r .value) .level ≡ suc l)
+      × (within (page ps (r .value) .start) (page ps (r .value) .end) v ≡ true)
+  kid-of l r h =
+      let (a, b) = both-true (eqb (page ps (r .value) .level) (suc l)) (within (page ps (r .value) .start) (page ps (r .value) .end) v) h in
+      (eqb-true _ _ a, b)
 
   abbrev pub passes : Seen → Bool
   passes x = passesAt least x
@@ -43,7 +49,8 @@ module _ (least : ℕ) (two-or-more : 2 ≤ least) (v : ℕ) (ps : List Page)
     pub keys : inRange low high us ≡ true
     pub order : rising us ≡ true
 
-  ok-of : (b : Bool) (up low high n : ℕ) (us : List Pair) → keysOk (record { number = n; up = up; isRoot = b; low = low; high = high; pairs = us }) ≡ true → Ok up low high us
+  ok-of : (b : Bool) (up low high n : ℕ) (us : List Pair)
+      → keysOk (record { number = n; up = up; isRoot = b; low = low; high = high; pairs = us }) ≡ true → Ok up low high us
   ok-of b up low high n us h =
       let (p, o) = both-true ((eqb up 0 || startsAt low us) && inRange low high us) (rising us) h in
       let (s, k) = both-true (eqb up 0 || startsAt low us) (inRange low high us) p in
@@ -60,7 +67,8 @@ module _ (least : ℕ) (two-or-more : 2 ≤ least) (v : ℕ) (ps : List Page)
   rest-of b l lo hi n h = all-cons passes (seenAs l ps v b lo hi n) (seenUnder l ps v hi n) h .1
 
   -- keys that rise stand at or above the first
-  from-first : (y : Pair) (rs : List Pair) (hi lo : ℕ) → inRange lo hi (y ∷ rs) ≡ true → rising (y ∷ rs) ≡ true → inRange (y .key) hi (y ∷ rs) ≡ true
+  from-first : (y : Pair) (rs : List Pair) (hi lo : ℕ) → inRange lo hi (y ∷ rs) ≡ true → rising (y ∷ rs) ≡ true
+      → inRange (y .key) hi (y ∷ rs) ≡ true
   from-first y rs hi lo k o =
       let (ky, krs) = all-cons (λ (z : Pair). within lo hi (z .key)) y rs k in
       both-intro _ _ (both-intro _ _ (le-leb (y .key) (y .key) (omega arith)) (both-true (leb lo (y .key)) (ltb (y .key) hi) ky .1))
@@ -71,22 +79,31 @@ module _ (least : ℕ) (two-or-more : 2 ≤ least) (v : ℕ) (ps : List Page)
       go (z ∷ zs) a b =
           let (az, azs) = all-cons (λ (u : Pair). within lo hi (u .key)) z zs a in
           let (bz, bzs) = all-cons (λ (u : Pair). ltb (y .key) (u .key)) z zs b in
-          both-intro _ _ (both-intro _ _ (le-leb (y .key) (z .key) (omega (arith, ltb-true (y .key) (z .key) bz))) (both-true (leb lo (z .key)) (ltb (z .key) hi) az .1)) (go zs azs bzs)
+          both-intro _ _
+          (both-intro _ _ (le-leb (y .key) (z .key) (omega (arith, ltb-true (y .key) (z .key) bz)))
+          (both-true (leb lo (z .key)) (ltb (z .key) hi) az .1)) (go zs azs bzs)
 
   -- the routers of a page one after another
-  row-of : (l : ℕ) → ((lo hi n : ℕ) → page ps n .level ≡ suc l → within (page ps n .start) (page ps n .end) v ≡ true → all passes (seenBelow l ps v false lo hi n) ≡ true → lo < hi → Tree least v l ps lo hi n (below l ps v n))
+  row-of : (l : ℕ)
+      → ((lo hi n : ℕ) → page ps n .level ≡ suc l → within (page ps n .start) (page ps n .end) v ≡ true
+      → all passes (seenBelow l ps v false lo hi n) ≡ true → lo < hi → Tree least v l ps lo hi n (below l ps v n))
       → (rs : List Pair) (x : Pair) (lo hi : ℕ) → x .key ≡ lo → inRange lo hi (x ∷ rs) ≡ true → rising (x ∷ rs) ≡ true
       → all (kid l) (x ∷ rs) ≡ true → all passes (spread (seenBelow l ps v false) (x ∷ rs) hi) ≡ true
       → Row (Tree least v l ps) hi (x ∷ rs) lo (flatMap (λ (r : Pair). below l ps v (r .value)) (x ∷ rs))
   row-of l f [] x lo hi e k o g h =
-      let room : lo < hi = omega (arith, ltb-true (x .key) hi (both-true (leb lo (x .key)) (ltb (x .key) hi) (all-cons (λ (y : Pair). within lo hi (y .key)) x [] k .0) .1)) in
+      let room : lo < hi
+      = omega (
+        arith,
+        ltb-true (x .key) hi (both-true (leb lo (x .key)) (ltb (x .key) hi) (all-cons (λ (y : Pair). within lo hi (y .key)) x [] k .0) .1),
+      ) in
       record {
         mid = hi;
         mine = below l ps v (x .value);
         others = [];
         low = e;
         room = room;
-        here = f lo hi (x .value) (kid-of l x (all-cons (kid l) x [] g .0) .0) (kid-of l x (all-cons (kid l) x [] g .0) .1) (subst (λ (a : ℕ). all passes (seenBelow l ps v false a hi (x .value)) ≡ true) e h) room;
+        here = f lo hi (x .value) (kid-of l x (all-cons (kid l) x [] g .0) .0) (kid-of l x (all-cons (kid l) x [] g .0) .1)
+            (subst (λ (a : ℕ). all passes (seenBelow l ps v false a hi (x .value)) ≡ true) e h) room;
         rest = record { met = refl; nothing = refl };
         all-of = refl;
       }
@@ -104,12 +121,15 @@ module _ (least : ℕ) (two-or-more : 2 ≤ least) (v : ℕ) (ps : List Page)
         others = flatMap (λ (r : Pair). below l ps v (r .value)) (y ∷ rs);
         low = e;
         room = room;
-        here = f lo (y .key) (x .value) (kid-of l x gx .0) (kid-of l x gx .1) (subst (λ (a : ℕ). all passes (seenBelow l ps v false a (y .key) (x .value)) ≡ true) e mine) room;
+        here = f lo (y .key) (x .value) (kid-of l x gx .0) (kid-of l x gx .1)
+            (subst (λ (a : ℕ). all passes (seenBelow l ps v false a (y .key) (x .value)) ≡ true) e mine) room;
         rest = row-of l f rs y (y .key) hi refl (from-first y rs hi lo ky oy) oy gy others;
         all-of = refl;
       }
 
-  row-all : (l : ℕ) → ((lo hi n : ℕ) → page ps n .level ≡ suc l → within (page ps n .start) (page ps n .end) v ≡ true → all passes (seenBelow l ps v false lo hi n) ≡ true → lo < hi → Tree least v l ps lo hi n (below l ps v n))
+  row-all : (l : ℕ)
+      → ((lo hi n : ℕ) → page ps n .level ≡ suc l → within (page ps n .start) (page ps n .end) v ≡ true
+      → all passes (seenBelow l ps v false lo hi n) ≡ true → lo < hi → Tree least v l ps lo hi n (below l ps v n))
       → (rs : List Pair) (lo hi : ℕ) → Some least v rs → Ok (suc l) lo hi rs
       → all (kid l) rs ≡ true → all passes (spread (seenBelow l ps v false) rs hi) ≡ true
       → Row (Tree least v l ps) hi rs lo (flatMap (λ (r : Pair). below l ps v (r .value)) rs)
@@ -117,19 +137,24 @@ module _ (least : ℕ) (two-or-more : 2 ≤ least) (v : ℕ) (ps : List Page)
     where
       none : _≡_ {A = List Pair} [] (s .first ∷ s .others) → ⊥
       none e = let z : _≡_ {A = ℕ} 0 1 = cc in omega arith
-  row-all l f (x ∷ rs) lo hi s o g h = row-of l f rs x lo hi (eqb-true (x .key) lo (subst (λ (b : Bool). (b || eqb (x .key) lo) ≡ true) (eqb·suc-zero l) (o .starts))) (o .keys) (o .order) g h
+  row-all l f (x ∷ rs) lo hi s o g h =
+      row-of l f rs x lo hi (eqb-true (x .key) lo (subst (λ (b : Bool). (b || eqb (x .key) lo) ≡ true) (eqb·suc-zero l) (o .starts)))
+      (o .keys) (o .order) g h
 
   -- A page whose walk passes is a tree that shows what the walk gives.
-  pub tree-passes : (l lo hi n : ℕ) → page ps n .level ≡ suc l → within (page ps n .start) (page ps n .end) v ≡ true → all passes (seenBelow l ps v false lo hi n) ≡ true → lo < hi → Tree least v l ps lo hi n (below l ps v n)
+  pub tree-passes : (l lo hi n : ℕ) → page ps n .level ≡ suc l → within (page ps n .start) (page ps n .end) v ≡ true
+      → all passes (seenBelow l ps v false lo hi n) ≡ true → lo < hi → Tree least v l ps lo hi n (below l ps v n)
   tree-passes zero lo hi n e z h room =
       let (k, c) = both-true (keysOk (seenAs zero ps v false lo hi n)) _ (first-of false zero lo hi n h) in
       let ok = ok-of false zero lo hi n (pairsAt v (page ps n)) k in
-      tree-of least v ps zero lo hi n _ room e (record { lives = z; many = leb-true least (length (pairsAt v (page ps n))) c }) (some-of (pairsAt v (page ps n)) c) (record { same = refl; keys = ok .keys; rising = ok .order })
+      tree-of least v ps zero lo hi n _ room e (record { lives = z; many = leb-true least (length (pairsAt v (page ps n))) c })
+      (some-of (pairsAt v (page ps n)) c) (record { same = refl; keys = ok .keys; rising = ok .order })
   tree-passes (suc l) lo hi n e z h room =
       let (k, c) = both-true (keysOk (seenAs (suc l) ps v false lo hi n)) _ (first-of false (suc l) lo hi n h) in
       let some = some-of (pairsAt v (page ps n)) c in
       tree-of least v ps (suc l) lo hi n _ room e (record { lives = z; many = leb-true least (length (pairsAt v (page ps n))) c }) some
-      (row-all l (λ a b m p q z y. tree-passes l a b m p q z y) (pairsAt v (page ps n)) lo hi some (ok-of false (suc l) lo hi n (pairsAt v (page ps n)) k) (levels n l e)
+      (row-all l (λ a b m p q z y. tree-passes l a b m p q z y) (pairsAt v (page ps n)) lo hi some
+      (ok-of false (suc l) lo hi n (pairsAt v (page ps n)) k) (levels n l e)
       (rest-of false (suc l) lo hi n h))
 
   some-two : (us : List Pair) → leb 2 (length us) ≡ true → Some least v us
@@ -137,12 +162,14 @@ module _ (least : ℕ) (two-or-more : 2 ≤ least) (v : ℕ) (ps : List Page)
   some-two (x ∷ us) h = record { first = x; others = us; is = refl }
 
   -- A root whose walk passes shows what the walk gives.
-  pub root-passes : (l n : ℕ) → page ps n .level ≡ suc l → all passes (seenBelow l ps v true 0 keyLimit n) ≡ true → Holds least v l ps 0 keyLimit (pairsAt v (page ps n)) (below l ps v n)
+  pub root-passes : (l n : ℕ) → page ps n .level ≡ suc l → all passes (seenBelow l ps v true 0 keyLimit n) ≡ true
+      → Holds least v l ps 0 keyLimit (pairsAt v (page ps n)) (below l ps v n)
   root-passes zero n e h =
       let (k, c) = both-true (keysOk (seenAs zero ps v true 0 keyLimit n)) _ (first-of true zero 0 keyLimit n h) in
       let ok = ok-of true zero 0 keyLimit n (pairsAt v (page ps n)) k in
       record { same = refl; keys = ok .keys; rising = ok .order }
   root-passes (suc l) n e h =
       let (k, c) = both-true (keysOk (seenAs (suc l) ps v true 0 keyLimit n)) _ (first-of true (suc l) 0 keyLimit n h) in
-      row-all l (λ a b m p q z y. tree-passes l a b m p q z y) (pairsAt v (page ps n)) 0 keyLimit (some-two (pairsAt v (page ps n)) c) (ok-of true (suc l) 0 keyLimit n (pairsAt v (page ps n)) k) (levels n l e)
+      row-all l (λ a b m p q z y. tree-passes l a b m p q z y) (pairsAt v (page ps n)) 0 keyLimit (some-two (pairsAt v (page ps n)) c)
+      (ok-of true (suc l) 0 keyLimit n (pairsAt v (page ps n)) k) (levels n l e)
       (rest-of true (suc l) 0 keyLimit n h)

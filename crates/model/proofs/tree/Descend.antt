@@ -13,7 +13,8 @@ use Rattle.model.specs.declared.Pair.{Pair}
 use Rattle.model.specs.Page.{Page, pairsAt}
 use Rattle.model.specs.Store.{page}
 use Rattle.model.specs.Walk.{Around, aroundFrom, around, wayDown}
-use Rattle.model.proofs.tree.Tree.{Says, Row, LeafHolds, Holds, Tree, row-append}
+use Rattle.model.specs.Tree.{Says, Row, LeafHolds, Holds}
+use Rattle.model.proofs.tree.Tree.{Tree, row-append}
 use Rattle.model.proofs.tree.Shows.{LastIs, HeadIs, Company, Tidy, Standing, Touched, inside, Way, Some}
 
 -- the place of k among routers
@@ -38,8 +39,10 @@ pub record RouterPlace (least w : ℕ) (S : Says) (k lo hi : ℕ) (rs zs : List 
   pub all-of : zs ≡ befores ++ (mine ++ afters)
 
 module _ (least w k : ℕ) (S : Says) where
-  found : (rest : List Pair) (x : Pair) (l : Option Pair) (before : List Pair) (bot lo hi : ℕ) (bs zs : List Pair) → LastIs least w before l → Row S lo before bot bs
-      → Row S hi (x ∷ rest) lo zs → lo ≤ k → k < hi → RouterPlace least w S k bot hi (before ++ (x ∷ rest)) (bs ++ zs) (aroundFrom k l x rest)
+  found : (rest : List Pair) (x : Pair) (l : Option Pair) (before : List Pair) (bot lo hi : ℕ) (bs zs : List Pair) → LastIs least w before l
+      → Row S lo before bot bs
+      → Row S hi (x ∷ rest) lo zs → lo ≤ k → k < hi
+      → RouterPlace least w S k bot hi (before ++ (x ∷ rest)) (bs ++ zs) (aroundFrom k l x rest)
   found [] x l before bot lo hi bs zs last lefts t p q = record {
     before = before;
     after = [];
@@ -63,16 +66,28 @@ module _ (least w k : ℕ) (S : Says) where
   found (y ∷ ys) x l before bot lo hi bs zs last lefts t p q = at (leb (y .key) k) refl (found ys y (some x))
     where
       one : Row S (t .mid) (x ∷ []) lo (t .mine)
-      one = record { mid = t .mid; mine = t .mine; others = []; low = t .low; room = t .room; here = t .here; rest = record { met = refl; nothing = refl }; all-of = sym (append-nil (t .mine)) }
+      one =
+          record {
+            mid = t .mid;
+            mine = t .mine;
+            others = [];
+            low = t .low;
+            room = t .room;
+            here = t .here;
+            rest = record { met = refl; nothing = refl };
+            all-of = sym (append-nil (t .mine));
+          }
 
       at : (b : Bool) → leb (y .key) k ≡ b
-          → ((before′ : List Pair) (bot′ lo′ hi′ : ℕ) (bs′ zs′ : List Pair) → LastIs least w before′ (some x) → Row S lo′ before′ bot′ bs′ → Row S hi′ (y ∷ ys) lo′ zs′ → lo′ ≤ k → k < hi′
+          → ((before′ : List Pair) (bot′ lo′ hi′ : ℕ) (bs′ zs′ : List Pair) → LastIs least w before′ (some x) → Row S lo′ before′ bot′ bs′
+          → Row S hi′ (y ∷ ys) lo′ zs′ → lo′ ≤ k → k < hi′
           → RouterPlace least w S k bot′ hi′ (before′ ++ (y ∷ ys)) (bs′ ++ zs′) (aroundFrom k (some x) y ys))
           → RouterPlace least w S k bot hi (before ++ (x ∷ y ∷ ys)) (bs ++ zs)
           (elim b as (λ z. Around) [ true ↦ aroundFrom k (some x) y ys | false ↦ record { left = l; own = x; right = some y } ])
       at true e ih =
           let yk : y .key ≡ t .mid = t .rest .low in
-          let f = ih (before ++ (x ∷ [])) bot (t .mid) hi (bs ++ t .mine) (t .others) (before, refl) (row-append S (t .mid) lo before (x ∷ []) bot bs (t .mine) lefts one) (t .rest)
+          let f = ih (before ++ (x ∷ [])) bot (t .mid) hi (bs ++ t .mine) (t .others) (before, refl)
+          (row-append S (t .mid) lo before (x ∷ []) bot bs (t .mine) lefts one) (t .rest)
           (omega (arith, leb-true (y .key) k e, yk)) q in
           record {
             before = f .before;
@@ -115,11 +130,13 @@ module _ (least w k : ℕ) (S : Says) where
         all-of = ap (λ (us : List Pair). bs ++ us) (t .all-of);
       }
 
-  pub found-in : (rs : List Pair) (lo hi : ℕ) (zs : List Pair) → Row S hi rs lo zs → lo ≤ k → k < hi → RouterPlace least w S k lo hi rs zs (around k rs)
+  pub found-in : (rs : List Pair) (lo hi : ℕ) (zs : List Pair) → Row S hi rs lo zs → lo ≤ k → k < hi
+      → RouterPlace least w S k lo hi rs zs (around k rs)
   found-in [] lo hi zs t p q = absurd (omega (arith, t .met))
   found-in (x ∷ rs) lo hi zs t p q = found rs x none [] lo lo hi [] zs refl (record { met = refl; nothing = refl }) t p q
 
-company : (least w : ℕ) (before after : List Pair) (o : Pair) (x y : Option Pair) → LastIs least w before x → HeadIs least w after y → 2 ≤ length (before ++ (o ∷ after)) → Company least w x y
+company : (least w : ℕ) (before after : List Pair) (o : Pair) (x y : Option Pair) → LastIs least w before x → HeadIs least w after y
+    → 2 ≤ length (before ++ (o ∷ after)) → Company least w x y
 company least w before after o x (some y) l h n = tt
 company least w before after o (some x) none l h n = tt
 company least w before after o none none l h n = omega (arith, ap₂ (λ (b a : List Pair). length (b ++ (o ∷ a))) l h)
@@ -150,8 +167,10 @@ module _ (least w k : ℕ) (ps : List Page) (r : ℕ) (tidy : (m : ℕ) → Tidy
     pub upto : k < hi
     pub is : total ≡ xs ++ (pairsAt w (page ps n) ++ ys)
 
-  pub descend : (l : ℕ) (acc : List Around) (lo hi n : ℕ) (xs ys zs total : List Pair) → Way least w ps r l acc lo hi n xs ys → page ps n .level ≡ suc l → NodeAnchor l acc lo hi n → Standing least w acc l (page ps n)
-      → Holds least w l ps lo hi (pairsAt w (page ps n)) zs → lo ≤ k → k < hi → total ≡ xs ++ (zs ++ ys) → LeadsDown total (wayDown l ps w k n acc)
+  pub descend : (l : ℕ) (acc : List Around) (lo hi n : ℕ) (xs ys zs total : List Pair) → Way least w ps r l acc lo hi n xs ys
+      → page ps n .level ≡ suc l → NodeAnchor l acc lo hi n → Standing least w acc l (page ps n)
+      → Holds least w l ps lo hi (pairsAt w (page ps n)) zs → lo ≤ k → k < hi → total ≡ xs ++ (zs ++ ys)
+      → LeadsDown total (wayDown l ps w k n acc)
   descend zero acc lo hi n xs ys zs total way e anchor stand h p q is = record {
     lo = lo;
     hi = hi;
@@ -196,14 +215,16 @@ module _ (least w k : ℕ) (ps : List Page) (r : ℕ) (tidy : (m : ℕ) → Tidy
         leftIs = f .leftIs;
         rightIs = f .rightIs;
         company = company least w (f .before) (f .after) (a .own) (a .left) (a .right) (f .leftIs) (f .rightIs)
-            (subst (λ (us : List Pair). 2 ≤ length us) (f .split) (many n l e (subst (Some least w) (sym (f .split)) (some-middle (f .before) (a .own) (f .after)))));
+            (subst (λ (us : List Pair). 2 ≤ length us) (f .split)
+            (many n l e (subst (Some least w) (sym (f .split)) (some-middle (f .before) (a .own) (f .after)))));
         outBefore = xs;
         outAfter = ys;
         outer = way;
         xs-is = refl;
         ys-is = refl;
       })
-      (t .level) (inside (t .level) (t .first) (t .others) (t .shown) (t .first-low) (t .first-high)) (t .fair) (t .holds) (f .from) (f .upto)
+      (t .level) (inside (t .level) (t .first) (t .others) (t .shown) (t .first-low) (t .first-high)) (t .fair) (t .holds) (f .from)
+      (f .upto)
       (is ∙ ap (λ (us : List Pair). xs ++ (us ++ ys)) (f .all-of) ∙ regroup xs (f .befores) (f .mine) (f .afters) ys)
     where
       some-middle : (b : List Pair) (x : Pair) (c : List Pair) → Some least w (b ++ (x ∷ c))

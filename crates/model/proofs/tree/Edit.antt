@@ -13,9 +13,9 @@ use Rattle.model.specs.Basic.{all, those, keep, has, pick, inOrder}
 use Rattle.model.specs.declared.Pair.{Pair}
 use Rattle.model.specs.Entry.{pair, within, placed, enterPair}
 use Rattle.model.specs.Walk.{find}
+use Rattle.model.specs.Tree.{LeafHolds, inRange}
 use Rattle.model.proofs.lists.Lists.{both-true, both-intro, all-cons}
-use Rattle.model.proofs.tree.Tree.{LeafHolds}
-use Rattle.model.proofs.tree.Local.{applied, inRange}
+use Rattle.model.proofs.tree.Local.{applied}
 
 all-enterPair : (f : Pair → Bool) (p : Pair) → f p ≡ true → (us : List Pair) → all f us ≡ true → all f (enterPair p us) ≡ true
 all-enterPair f p y [] ok = both-intro (f p) true y refl
@@ -58,7 +58,8 @@ rising-enter p (u ∷ us) h o =
         let (x, y) = all-cons (lt u) v vs a in
         both-intro _ _ (lt-ltb (p .key) (v .key) (omega (arith, ltb-true (u .key) (v .key) x))) (over l vs y)
 
-    at : (b : Bool) → ltb (p .key) (u .key) ≡ b → all (lt u) us ≡ true → inOrder lt us ≡ true → (u .key ≡ p .key → ⊥) → inOrder lt (enterPair p us) ≡ true
+    at : (b : Bool) → ltb (p .key) (u .key) ≡ b → all (lt u) us ≡ true → inOrder lt us ≡ true → (u .key ≡ p .key → ⊥)
+        → inOrder lt (enterPair p us) ≡ true
         → inOrder lt (placed b p u us (enterPair p us)) ≡ true
     at true e here rest n ih =
         let l : p .key < u .key = ltb-true (p .key) (u .key) e in
@@ -79,27 +80,35 @@ rising-those g (u ∷ us) o =
     at true here ih = both-intro _ _ here ih
     at false here ih = ih
 
-pub those-one : (k : ℕ) (us : List Pair) → all (λ (y : Pair). ltb k (y .key)) us ≡ true → those (λ (y : Pair). not (has (y .key) (k ∷ []))) us ≡ us
+pub those-one : (k : ℕ) (us : List Pair) → all (λ (y : Pair). ltb k (y .key)) us ≡ true
+    → those (λ (y : Pair). not (has (y .key) (k ∷ []))) us ≡ us
 those-one k [] h = refl
 those-one k (u ∷ us) h =
     let (a, b) = all-cons (λ (y : Pair). ltb k (y .key)) u us h in
     rw (ne-eqb (u .key) k (λ (e : u .key ≡ k). omega (arith, ltb-true k (u .key) a))) (ap (λ (vs : List Pair). u ∷ vs) (those-one k us b))
 
 -- of keys that rise, dropping one drops at most one pair
-pub dropped-one : (k : ℕ) (us : List Pair) → inOrder lt us ≡ true → length us ≤ suc (length (those (λ (y : Pair). not (has (y .key) (k ∷ []))) us))
+pub dropped-one : (k : ℕ) (us : List Pair) → inOrder lt us ≡ true
+    → length us ≤ suc (length (those (λ (y : Pair). not (has (y .key) (k ∷ []))) us))
 dropped-one k [] o = omega arith
 dropped-one k (u ∷ us) o =
     let (a, b) = both-true (all (lt u) us) (inOrder lt us) o in
     at (eqb (u .key) k) refl a (dropped-one k us b)
   where
-    at : (b : Bool) → eqb (u .key) k ≡ b → all (lt u) us ≡ true → length us ≤ suc (length (those (λ (y : Pair). not (has (y .key) (k ∷ []))) us))
+    at : (b : Bool) → eqb (u .key) k ≡ b → all (lt u) us ≡ true
+        → length us ≤ suc (length (those (λ (y : Pair). not (has (y .key) (k ∷ []))) us))
         → suc (length us) ≤ suc (length (keep (not (b || false)) u (those (λ (y : Pair). not (has (y .key) (k ∷ []))) us)))
     at false e a ih = omega arith
-    at true e a ih = omega (arith, ap (λ (vs : List Pair). length vs) (those-one k us (subst (λ (j : ℕ). all (λ (y : Pair). ltb j (y .key)) us ≡ true) (eqb-true (u .key) k e) a)))
+    at true e a ih =
+        omega (
+          arith,
+          ap (λ (vs : List Pair). length vs)
+              (those-one k us (subst (λ (j : ℕ). all (λ (y : Pair). ltb j (y .key)) us ≡ true) (eqb-true (u .key) k e) a)),
+        )
 
-pub length-enter : (p : Pair) (us : List Pair) → length (enterPair p us) ≡ suc (length us)
-length-enter p [] = refl
-length-enter p (u ∷ us) = at (ltb (p .key) (u .key)) (length-enter p us)
+pub length-enterPair : (p : Pair) (us : List Pair) → length (enterPair p us) ≡ suc (length us)
+length-enterPair p [] = refl
+length-enterPair p (u ∷ us) = at (ltb (p .key) (u .key)) (length-enterPair p us)
   where
     at : (b : Bool) → length (enterPair p us) ≡ suc (length us) → length (placed b p u us (enterPair p us)) ≡ suc (suc (length us))
     at true ih = refl
@@ -117,7 +126,8 @@ or-false : (q : Bool) → (q || false) ≡ q
 or-false true = refl
 or-false false = refl
 
-pub delete-same : (k : ℕ) (us : List Pair) → applied (record { drop = k ∷ []; take = [] }) us ≡ those (λ (y : Pair). not (eqb (y .key) k)) us
+pub delete-same : (k : ℕ) (us : List Pair) → applied (record { drop = k ∷ []; take = [] }) us
+    ≡ those (λ (y : Pair). not (eqb (y .key) k)) us
 delete-same k us = λ i. those (λ (y : Pair). not (or-false (eqb (y .key) k) i)) us
 
 pub leaf-insert : (k x lo hi : ℕ) (us : List Pair) → find k us ≡ none → lo ≤ k → k < hi → LeafHolds lo hi us us
@@ -128,7 +138,8 @@ leaf-insert k x lo hi us h p q t =
       same = refl;
       keys = subst (λ (vs : List Pair). inRange lo hi (enterPair (pair k x) vs) ≡ true) (sym same)
           (all-enterPair (λ (y : Pair). within lo hi (y .key)) (pair k x) (both-intro _ _ (le-leb lo k p) (lt-ltb k hi q)) us (t .keys));
-      rising = subst (λ (vs : List Pair). inOrder lt (enterPair (pair k x) vs) ≡ true) (sym same) (rising-enter (pair k x) us h (t .rising));
+      rising = subst (λ (vs : List Pair). inOrder lt (enterPair (pair k x) vs) ≡ true) (sym same)
+          (rising-enter (pair k x) us h (t .rising));
     }
 
 pub leaf-delete : (k lo hi : ℕ) (us : List Pair) → LeafHolds lo hi us us

@@ -18,11 +18,12 @@ use Rattle.model.specs.Store.{page, freeFrom, freeOnes}
 use Rattle.model.specs.Walk.{keyLimit}
 use Rattle.model.specs.Rules
 use Rattle.model.specs.Rules.{retire, usable, Rebuilt, rebuilt, short, lowKey}
+use Rattle.model.specs.Inner.{In}
 use Rattle.model.proofs.lists.Lists.{both-true, both-intro, all-cons}
-use Rattle.model.proofs.lists.Members.{In, in-append, in-those}
+use Rattle.model.proofs.lists.Members.{in-append, in-those}
+use Rattle.model.proofs.lists.Bools.{same?}
 use Rattle.model.proofs.tree.Local.{all-left, all-right}
 use Rattle.model.proofs.tree.Edit.{lt}
-use Rattle.model.proofs.tree.Shows.{same?}
 use Rattle.model.proofs.tree.GroupShows.{Olds, lone, twin, Apart}
 use Rattle.model.proofs.kept.OnePage.{kindOk}
 
@@ -34,7 +35,8 @@ Distinct [] = Unit {0}
 Distinct (r ∷ []) = Unit {0}
 Distinct (r ∷ q ∷ rs) = r .value ≢ q .value
 
-pub page-set-at : (ps : List Page) (n m : ℕ) (q : Page) → n < length ps → ((m ≡ n) × (page (set ps n q) m ≡ q)) ⊎ ((m ≢ n) × (page (set ps n q) m ≡ page ps m))
+pub page-set-at : (ps : List Page) (n m : ℕ) (q : Page) → n < length ps
+    → ((m ≡ n) × (page (set ps n q) m ≡ q)) ⊎ ((m ≢ n) × (page (set ps n q) m ≡ page ps m))
 page-set-at ps n m q h = at (same? m n)
   where
     at : (m ≡ n) ⊎ (m ≢ n) → ((m ≡ n) × (page (set ps n q) m ≡ q)) ⊎ ((m ≢ n) × (page (set ps n q) m ≡ page ps m))
@@ -52,15 +54,20 @@ rising-right [] ys o = o
 rising-right (x ∷ xs) ys o = rising-right xs ys (both-true (all (lt x) (xs ++ ys)) (inOrder lt (xs ++ ys)) o .1)
 
 -- the free pages
-in-free : (ps : List Page) (k : ℕ) (qs : List Page) → ((i : ℕ) → page qs i ≡ page ps (k + i)) → ((i : ℕ) → i < length qs → k + i < length ps) → (n : ℕ) → In n (freeFrom k qs)
+in-free : (ps : List Page) (k : ℕ) (qs : List Page) → ((i : ℕ) → page qs i ≡ page ps (k + i))
+    → ((i : ℕ) → i < length qs → k + i < length ps) → (n : ℕ) → In n (freeFrom k qs)
     → (page ps n .level ≡ 0) × (k ≤ n) × (n < length ps)
 in-free ps k [] h g n i = absurd i
 in-free ps k (q ∷ qs) h g n i =
-    at (isFree q) refl i (λ j. in-free ps (suc k) qs (λ m. h (suc m) ∙ ap (page ps) (omega arith)) (λ m z. omega (arith, g (suc m) (omega arith))) n j)
+    at (isFree q) refl i
+    (λ j. in-free ps (suc k) qs (λ m. h (suc m) ∙ ap (page ps) (omega arith)) (λ m z. omega (arith, g (suc m) (omega arith))) n j)
   where
-    at : (b : Bool) → isFree q ≡ b → In n (keep b k (freeFrom (suc k) qs)) → (In n (freeFrom (suc k) qs) → (page ps n .level ≡ 0) × (suc k ≤ n) × (n < length ps)) → (page ps n .level ≡ 0) × (k ≤ n) × (n < length ps)
+    at : (b : Bool) → isFree q ≡ b → In n (keep b k (freeFrom (suc k) qs))
+        → (In n (freeFrom (suc k) qs) → (page ps n .level ≡ 0) × (suc k ≤ n) × (n < length ps))
+        → (page ps n .level ≡ 0) × (k ≤ n) × (n < length ps)
     at true e (inl z) ih =
-        let here : page ps n .level ≡ 0 = ap (λ (i : ℕ). page ps i .level) z ∙ ap (λ (p : Page). p .level) (sym (h 0 ∙ ap (page ps) (omega arith))) ∙ eqb-true (q .level) 0 e in
+        let here : page ps n .level ≡ 0 = ap (λ (i : ℕ). page ps i .level) z
+        ∙ ap (λ (p : Page). p .level) (sym (h 0 ∙ ap (page ps) (omega arith))) ∙ eqb-true (q .level) 0 e in
         (here, omega arith, omega (arith, g 0 (omega arith)))
     at true e (inr z) ih = let (a, b, c) = ih z in (a, omega arith, c)
     at false e z ih = let (a, b, c) = ih z in (a, omega arith, c)
@@ -110,28 +117,36 @@ module _ (least : ℕ) (two-or-more : 2 ≤ least) (w : ℕ) (N : ℕ) where
   RedoneOr ps level rs us (rebuilt qs news) = Redone ps qs level rs us news
   RedoneOr ps level rs us short = Unit {0}
 
-  module _ (ps : List Page) (l : ℕ) (rs : List Pair) (shape : Olds rs) (distinct : Distinct rs) (members : (m : ℕ) → In m (values rs) → m < length ps)
+  module _ (ps : List Page) (l : ℕ) (rs : List Pair) (shape : Olds rs) (distinct : Distinct rs)
+      (members : (m : ℕ) → In m (values rs) → m < length ps)
       (numbers : (m : ℕ) → Spare ps rs m → (5 ≤ m) × (m < N)) (low : lowKey rs < keyLimit) where
     Gone : ℕ → Type 0
-    Gone m = ((In m (values rs)) × (page (retire w ps rs) m ≡ gone w (page ps m))) ⊎ ((In m (values rs) → ⊥) × (page (retire w ps rs) m ≡ page ps m))
+    Gone m =
+        ((In m (values rs)) × (page (retire w ps rs) m ≡ gone w (page ps m)))
+        ⊎ ((In m (values rs) → ⊥) × (page (retire w ps rs) m ≡ page ps m))
 
     retired-one : (r : Pair) → r .value < length ps → (m : ℕ)
-        → ((In m (values (r ∷ []))) × (page (retire w ps (r ∷ [])) m ≡ gone w (page ps m))) ⊎ ((In m (values (r ∷ [])) → ⊥) × (page (retire w ps (r ∷ [])) m ≡ page ps m))
+        → ((In m (values (r ∷ []))) × (page (retire w ps (r ∷ [])) m ≡ gone w (page ps m)))
+        ⊎ ((In m (values (r ∷ [])) → ⊥) × (page (retire w ps (r ∷ [])) m ≡ page ps m))
     retired-one r h m = at (page-set-at ps (r .value) m (gone w (page ps (r .value))) h)
       where
         not : m ≢ r .value → In m (values (r ∷ [])) → ⊥
         not d (inl e) = d e
         not d (inr e) = e
 
-        at : ((m ≡ r .value) × (page (set ps (r .value) (gone w (page ps (r .value)))) m ≡ gone w (page ps (r .value)))) ⊎ ((m ≢ r .value) × (page (set ps (r .value) (gone w (page ps (r .value)))) m ≡ page ps m))
-            → ((In m (values (r ∷ []))) × (page (retire w ps (r ∷ [])) m ≡ gone w (page ps m))) ⊎ ((In m (values (r ∷ [])) → ⊥) × (page (retire w ps (r ∷ [])) m ≡ page ps m))
+        at : ((m ≡ r .value) × (page (set ps (r .value) (gone w (page ps (r .value)))) m ≡ gone w (page ps (r .value))))
+            ⊎ ((m ≢ r .value) × (page (set ps (r .value) (gone w (page ps (r .value)))) m ≡ page ps m))
+            → ((In m (values (r ∷ []))) × (page (retire w ps (r ∷ [])) m ≡ gone w (page ps m)))
+            ⊎ ((In m (values (r ∷ [])) → ⊥) × (page (retire w ps (r ∷ [])) m ≡ page ps m))
         at (inl z) = inl (inl (z .0), z .1 ∙ ap (λ (i : ℕ). gone w (page ps i)) (sym (z .0)))
         at (inr z) = inr (not (z .0), z .1)
 
     retired-two : (r q : Pair) → r .value < length ps → q .value < length ps → r .value ≢ q .value → (m : ℕ)
-        → ((In m (values (r ∷ q ∷ []))) × (page (retire w ps (r ∷ q ∷ [])) m ≡ gone w (page ps m))) ⊎ ((In m (values (r ∷ q ∷ [])) → ⊥) × (page (retire w ps (r ∷ q ∷ [])) m ≡ page ps m))
+        → ((In m (values (r ∷ q ∷ []))) × (page (retire w ps (r ∷ q ∷ [])) m ≡ gone w (page ps m)))
+        ⊎ ((In m (values (r ∷ q ∷ [])) → ⊥) × (page (retire w ps (r ∷ q ∷ [])) m ≡ page ps m))
     retired-two r q h k d m =
-        at (page-set-at ps₁ (q .value) m (gone w (page ps₁ (q .value))) (subst (λ (i : ℕ). q .value < i) (sym (length-set ps (r .value) (gone w (page ps (r .value))))) k)) (retired-one r h m)
+        at (page-set-at ps₁ (q .value) m (gone w (page ps₁ (q .value)))
+        (subst (λ (i : ℕ). q .value < i) (sym (length-set ps (r .value) (gone w (page ps (r .value))))) k)) (retired-one r h m)
       where
         ps₁ : List Page
         ps₁ = set ps (r .value) (gone w (page ps (r .value)))
@@ -139,8 +154,10 @@ module _ (least : ℕ) (two-or-more : 2 ≤ least) (w : ℕ) (N : ℕ) where
         other : page ps₁ (q .value) ≡ page ps (q .value)
         other = getD-set-other ps (r .value) (q .value) (gone w (page ps (r .value))) free (λ (e : q .value ≡ r .value). d (sym e))
 
-        by : m ≢ q .value → page (retire w ps (r ∷ q ∷ [])) m ≡ page ps₁ m → ((In m (values (r ∷ []))) × (page ps₁ m ≡ gone w (page ps m))) ⊎ ((In m (values (r ∷ [])) → ⊥) × (page ps₁ m ≡ page ps m))
-            → ((In m (values (r ∷ q ∷ []))) × (page (retire w ps (r ∷ q ∷ [])) m ≡ gone w (page ps m))) ⊎ ((In m (values (r ∷ q ∷ [])) → ⊥) × (page (retire w ps (r ∷ q ∷ [])) m ≡ page ps m))
+        by : m ≢ q .value → page (retire w ps (r ∷ q ∷ [])) m ≡ page ps₁ m
+            → ((In m (values (r ∷ []))) × (page ps₁ m ≡ gone w (page ps m))) ⊎ ((In m (values (r ∷ [])) → ⊥) × (page ps₁ m ≡ page ps m))
+            → ((In m (values (r ∷ q ∷ []))) × (page (retire w ps (r ∷ q ∷ [])) m ≡ gone w (page ps m)))
+            ⊎ ((In m (values (r ∷ q ∷ [])) → ⊥) × (page (retire w ps (r ∷ q ∷ [])) m ≡ page ps m))
         by n e (inl (inl y, z)) = inl (inl y, e ∙ z)
         by n e (inl (inr y, z)) = absurd y
         by n e (inr y) = inr (not, e ∙ y .1)
@@ -150,14 +167,17 @@ module _ (least : ℕ) (two-or-more : 2 ≤ least) (w : ℕ) (N : ℕ) where
             not (inr (inl z)) = n z
             not (inr (inr z)) = z
 
-        at : ((m ≡ q .value) × (page (set ps₁ (q .value) (gone w (page ps₁ (q .value)))) m ≡ gone w (page ps₁ (q .value)))) ⊎ ((m ≢ q .value) × (page (set ps₁ (q .value) (gone w (page ps₁ (q .value)))) m ≡ page ps₁ m))
+        at : ((m ≡ q .value) × (page (set ps₁ (q .value) (gone w (page ps₁ (q .value)))) m ≡ gone w (page ps₁ (q .value))))
+            ⊎ ((m ≢ q .value) × (page (set ps₁ (q .value) (gone w (page ps₁ (q .value)))) m ≡ page ps₁ m))
             → ((In m (values (r ∷ []))) × (page ps₁ m ≡ gone w (page ps m))) ⊎ ((In m (values (r ∷ [])) → ⊥) × (page ps₁ m ≡ page ps m))
-            → ((In m (values (r ∷ q ∷ []))) × (page (retire w ps (r ∷ q ∷ [])) m ≡ gone w (page ps m))) ⊎ ((In m (values (r ∷ q ∷ [])) → ⊥) × (page (retire w ps (r ∷ q ∷ [])) m ≡ page ps m))
+            → ((In m (values (r ∷ q ∷ []))) × (page (retire w ps (r ∷ q ∷ [])) m ≡ gone w (page ps m)))
+            ⊎ ((In m (values (r ∷ q ∷ [])) → ⊥) × (page (retire w ps (r ∷ q ∷ [])) m ≡ page ps m))
         at (inl z) o = inl (inr (inl (z .0)), z .1 ∙ ap (gone w) other ∙ ap (λ (i : ℕ). gone w (page ps i)) (sym (z .0)))
         at (inr z) o = by (z .0) (z .1) o
 
     retired-by : (qs : List Pair) → Olds qs → Distinct qs → ((m : ℕ) → In m (values qs) → m < length ps) → (m : ℕ)
-        → ((In m (values qs)) × (page (retire w ps qs) m ≡ gone w (page ps m))) ⊎ ((In m (values qs) → ⊥) × (page (retire w ps qs) m ≡ page ps m))
+        → ((In m (values qs)) × (page (retire w ps qs) m ≡ gone w (page ps m)))
+        ⊎ ((In m (values qs) → ⊥) × (page (retire w ps qs) m ≡ page ps m))
     retired-by qs (lone r) d h m = retired-one r (h (r .value) (inl refl)) m
     retired-by qs (twin r q k) d h m = retired-two r q (h (r .value) (inl refl)) (h (q .value) (inr (inl refl))) d m
 
@@ -179,9 +199,11 @@ module _ (least : ℕ) (two-or-more : 2 ≤ least) (w : ℕ) (N : ℕ) where
     number-kind : (k m : ℕ) → k < keyLimit → Spare ps rs m → kindOk N (suc (suc l)) (pair k m) ≡ true
     number-kind k m h s =
         let (a, b) = numbers m s in
-        rw (ne-eqb (suc (suc l)) 1 (λ (z : suc (suc l) ≡ 1). omega arith)) (both-intro _ _ (lt-ltb k keyLimit h) (both-intro _ _ (le-leb 5 m a) (lt-ltb m N b)))
+        rw (ne-eqb (suc (suc l)) 1 (λ (z : suc (suc l) ≡ 1). omega arith))
+        (both-intro _ _ (lt-ltb k keyLimit h) (both-intro _ _ (le-leb 5 m a) (lt-ltb m N b)))
 
-    redone-one : (us : List Pair) (n : ℕ) → Spare ps rs n → Fill (suc l) us → Redone ps (set (retire w ps rs) n (filled w (suc l) us)) (suc l) rs us (pair (lowKey rs) n ∷ [])
+    redone-one : (us : List Pair) (n : ℕ) → Spare ps rs n → Fill (suc l) us
+        → Redone ps (set (retire w ps rs) n (filled w (suc l) us)) (suc l) rs us (pair (lowKey rs) n ∷ [])
     unfolding Gone
     redone-one us n s f = record {
       now = λ m. at m (page-set-at R n m F inn) (retired-at m);
@@ -200,13 +222,16 @@ module _ (least : ℕ) (two-or-more : 2 ≤ least) (w : ℕ) (N : ℕ) where
         inn : n < length R
         inn = subst (λ (i : ℕ). n < i) (sym retired-long) (spare-in n s)
 
-        at : (m : ℕ) → ((m ≡ n) × (page (set R n F) m ≡ F)) ⊎ ((m ≢ n) × (page (set R n F) m ≡ page R m)) → Gone m → Now ps (set R n F) (suc l) rs (pair (lowKey rs) n ∷ []) m
+        at : (m : ℕ) → ((m ≡ n) × (page (set R n F) m ≡ F)) ⊎ ((m ≢ n) × (page (set R n F) m ≡ page R m)) → Gone m
+            → Now ps (set R n F) (suc l) rs (pair (lowKey rs) n ∷ []) m
         at m (inl z) g = came us (z .1) (subst (Spare ps rs) (sym (z .0)) s) f (inl (z .0))
         at m (inr z) (inl g) = went (g .0) (z .1 ∙ g .1)
         at m (inr z) (inr g) = same (z .1 ∙ g .1) (g .0)
 
-    redone-two : (xs ys : List Pair) (n m : ℕ) → n ≢ m → Spare ps rs n → Spare ps rs m → Fill (suc l) xs → Fill (suc l) ys → lowKey ys < keyLimit
-        → Redone ps (set (set (retire w ps rs) n (filled w (suc l) xs)) m (filled w (suc l) ys)) (suc l) rs (xs ++ ys) (pair (lowKey rs) n ∷ pair (lowKey ys) m ∷ [])
+    redone-two : (xs ys : List Pair) (n m : ℕ) → n ≢ m → Spare ps rs n → Spare ps rs m → Fill (suc l) xs → Fill (suc l) ys
+        → lowKey ys < keyLimit
+        → Redone ps (set (set (retire w ps rs) n (filled w (suc l) xs)) m (filled w (suc l) ys)) (suc l) rs (xs ++ ys)
+        (pair (lowKey rs) n ∷ pair (lowKey ys) m ∷ [])
     unfolding Gone
     redone-two xs ys n m d s t f g k = record {
       now = λ i. at i (page-set-at R₁ m i G inm) (page-set-at R n i F inn) (retired-at i);
@@ -235,21 +260,32 @@ module _ (least : ℕ) (two-or-more : 2 ≤ least) (w : ℕ) (N : ℕ) where
         inm = subst (λ (i : ℕ). m < i) (sym (length-set R n F ∙ retired-long)) (spare-in m t)
 
         keep-at : (x : Pair) → In x xs ⊎ In x ys → InNew (set R₁ m G) (suc l) (pair (lowKey rs) n ∷ pair (lowKey ys) m ∷ []) x
-        keep-at x (inl i) = record { number = n; pairs = xs; wrote = getD-set-other R₁ m n G free d ∙ getD-set-same R n F free inn; is-in = i; new = inl refl }
+        keep-at x (inl i) =
+            record {
+              number = n;
+              pairs = xs;
+              wrote = getD-set-other R₁ m n G free d ∙ getD-set-same R n F free inn;
+              is-in = i;
+              new = inl refl;
+            }
         keep-at x (inr i) = record { number = m; pairs = ys; wrote = getD-set-same R₁ m G free inm; is-in = i; new = inr (inl refl) }
 
-        at : (i : ℕ) → ((i ≡ m) × (page (set R₁ m G) i ≡ G)) ⊎ ((i ≢ m) × (page (set R₁ m G) i ≡ page R₁ i)) → ((i ≡ n) × (page R₁ i ≡ F)) ⊎ ((i ≢ n) × (page R₁ i ≡ page R i)) → Gone i
+        at : (i : ℕ) → ((i ≡ m) × (page (set R₁ m G) i ≡ G)) ⊎ ((i ≢ m) × (page (set R₁ m G) i ≡ page R₁ i))
+            → ((i ≡ n) × (page R₁ i ≡ F)) ⊎ ((i ≢ n) × (page R₁ i ≡ page R i)) → Gone i
             → Now ps (set R₁ m G) (suc l) rs (pair (lowKey rs) n ∷ pair (lowKey ys) m ∷ []) i
         at i (inl z) y o = came ys (z .1) (subst (Spare ps rs) (sym (z .0)) t) g (inr (inl (z .0)))
         at i (inr z) (inl y) o = came xs (z .1 ∙ y .1) (subst (Spare ps rs) (sym (y .0)) s) f (inl (y .0))
         at i (inr z) (inr y) (inl o) = went (o .0) (z .1 ∙ y .1 ∙ o .1)
         at i (inr z) (inr y) (inr o) = same (z .1 ∙ y .1 ∙ o .1) (o .0)
 
-    pub redone-by : (b : Bool) (us : List Pair) (ns : List ℕ) → leb (length us) (4 * least) ≡ b → ((n : ℕ) → In n ns → Spare ps rs n) → Apart ns
-        → length us ≤ 8 * least → inOrder lt us ≡ true → all (kindOk N (suc l)) us ≡ true → RedoneOr ps (suc l) rs us (Rules.rebuildWith w (suc l) ps rs (Rules.partsBy b us) ns)
+    pub redone-by : (b : Bool) (us : List Pair) (ns : List ℕ) → leb (length us) (4 * least) ≡ b → ((n : ℕ) → In n ns → Spare ps rs n)
+        → Apart ns
+        → length us ≤ 8 * least → inOrder lt us ≡ true → all (kindOk N (suc l)) us ≡ true
+        → RedoneOr ps (suc l) rs us (Rules.rebuildWith w (suc l) ps rs (Rules.partsBy b us) ns)
     unfolding Rules.rebuildWith Rules.partsBy
     redone-by true us [] e s a big o k = tt
-    redone-by true us (n ∷ ns) e s a big o k = redone-one us n (s n (inl refl)) (record { few = omega (arith, leb-true (length us) (4 * least) e); rise = o; kinds = k })
+    redone-by true us (n ∷ ns) e s a big o k =
+        redone-one us n (s n (inl refl)) (record { few = omega (arith, leb-true (length us) (4 * least) e); rise = o; kinds = k })
     redone-by false us [] e s a big o k = tt
     redone-by false us (n ∷ []) e s a big o k = tt
     redone-by false us (n ∷ m ∷ ns) e s a big o k =
@@ -260,9 +296,17 @@ module _ (least : ℕ) (two-or-more : 2 ≤ least) (w : ℕ) (N : ℕ) where
         let more : 4 * least < length us = leb-false (length us) (4 * least) e in
         let cut : drop h us ≡ getD us h (pair 0 0) ∷ drop (suc h) us = drop-cons us h (pair 0 0) (omega arith) in
         let right : all (kindOk N (suc l)) (drop h us) ≡ true = all-right (kindOk N (suc l)) (take h us) (drop h us) k′ in
-        let first : kindOk N (suc l) (getD us h (pair 0 0)) ≡ true = all-cons (kindOk N (suc l)) (getD us h (pair 0 0)) (drop (suc h) us) (subst (λ (xs : List Pair). all (kindOk N (suc l)) xs ≡ true) cut right) .0 in
-        subst (λ (vs : List Pair). Redone ps (set (set (retire w ps rs) n (filled w (suc l) (take h us))) m (filled w (suc l) (drop h us))) (suc l) rs vs (pair (lowKey rs) n ∷ pair (lowKey (drop h us)) m ∷ [])) parts
+        let first : kindOk N (suc l) (getD us h (pair 0 0)) ≡ true
+        = all-cons (kindOk N (suc l)) (getD us h (pair 0 0)) (drop (suc h) us)
+        (subst (λ (xs : List Pair). all (kindOk N (suc l)) xs ≡ true) cut right) .0 in
+        subst (λ (vs : List Pair). Redone ps (set (set (retire w ps rs) n (filled w (suc l) (take h us))) m (filled w (suc l) (drop h us)))
+        (suc l) rs vs (pair (lowKey rs) n ∷ pair (lowKey (drop h us)) m ∷ [])) parts
         (redone-two (take h us) (drop h us) n m a (s n (inl refl)) (s m (inr (inl refl)))
-        (record { few = omega (arith, length-take-le h us (omega arith)); rise = rising-left (take h us) (drop h us) o′; kinds = all-left (kindOk N (suc l)) (take h us) (drop h us) k′ })
+        (record {
+          few = omega (arith, length-take-le h us (omega arith));
+          rise = rising-left (take h us) (drop h us) o′;
+          kinds = all-left (kindOk N (suc l)) (take h us) (drop h us) k′;
+        })
         (record { few = omega (arith, length-drop h us); rise = rising-right (take h us) (drop h us) o′; kinds = right })
-        (subst (λ (xs : List Pair). lowKey xs < keyLimit) (sym cut) (ltb-true _ keyLimit (both-true (ltb (getD us h (pair 0 0) .key) keyLimit) _ first .0))))
+        (subst (λ (xs : List Pair). lowKey xs < keyLimit) (sym cut)
+        (ltb-true _ keyLimit (both-true (ltb (getD us h (pair 0 0) .key) keyLimit) _ first .0))))

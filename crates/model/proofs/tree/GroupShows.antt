@@ -16,11 +16,13 @@ use Rattle.model.specs.Page.{Page, free, pairsAt, filled}
 use Rattle.model.specs.Store.{page}
 use Rattle.model.specs.Rules
 use Rattle.model.specs.Rules.{retire, one, two, Rebuilt, rebuilt, short, lowKey, exchange}
+use Rattle.model.specs.Tree.{Row, Holds, inRange}
 use Rattle.model.proofs.lists.Lists.{both-true, both-intro, all-cons}
+use Rattle.model.proofs.lists.Bools.{same?}
 use Rattle.model.proofs.tree.Place.{show-filled}
-use Rattle.model.proofs.tree.Tree.{Row, Holds, Tree, Left, Away, unused, higher, frame}
-use Rattle.model.proofs.tree.Local.{applied, inRange, holds-keys, holds-cut, Cut, exchange-11, exchange-12, exchange-21, exchange-22}
-use Rattle.model.proofs.tree.Shows.{same?, Some, tree-of}
+use Rattle.model.proofs.tree.Tree.{Tree, Left, Away, unused, higher, frame}
+use Rattle.model.proofs.tree.Local.{applied, holds-keys, holds-cut, Cut, exchange-11, exchange-12, exchange-21, exchange-22}
+use Rattle.model.proofs.tree.Shows.{Some, tree-of}
 
 -- one router or two, by key
 pub data Olds : List Pair → Type 0 where
@@ -31,7 +33,8 @@ exchange-1 : (rs : List Pair) (n : ℕ) → Olds rs → applied (exchange rs (pa
 exchange-1 rs n (lone r) = exchange-11 r (pair (r .key) n)
 exchange-1 rs n (twin r q h) = exchange-21 r q (pair (r .key) n) refl h
 
-exchange-2 : (rs : List Pair) (n : ℕ) (m : Pair) → Olds rs → lowKey rs < m .key → applied (exchange rs (pair (lowKey rs) n ∷ m ∷ [])) rs ≡ pair (lowKey rs) n ∷ m ∷ []
+exchange-2 : (rs : List Pair) (n : ℕ) (m : Pair) → Olds rs → lowKey rs < m .key
+    → applied (exchange rs (pair (lowKey rs) n ∷ m ∷ [])) rs ≡ pair (lowKey rs) n ∷ m ∷ []
 exchange-2 rs n m (lone r) g = exchange-12 r (pair (r .key) n) m refl g
 exchange-2 rs n m (twin r q h) g = exchange-22 r q (pair (r .key) n) m refl h g
 
@@ -95,23 +98,30 @@ module _ (least w : ℕ) (lim : w < alive) where
   RebuiltShows T ps l lo hi olds gs short = Unit {0}
 
   -- a page written with what holds there
-  new-tree : (ps qs : List Page) (l a b n level : ℕ) (us zs : List Pair) → level ≡ suc l → a < b → least ≤ length us → page qs n ≡ filled w level us → Some least w us → Holds least w l qs a b us zs
+  new-tree : (ps qs : List Page) (l a b n level : ℕ) (us zs : List Pair) → level ≡ suc l → a < b → least ≤ length us
+      → page qs n ≡ filled w level us → Some least w us → Holds least w l qs a b us zs
       → Tree least w l qs a b n zs
   new-tree ps qs l a b n level us zs e room enough wrote s h =
       let shown : pairsAt w (page qs n) ≡ us = ap (pairsAt w) wrote ∙ show-filled w lim level us in
       tree-of least w qs l a b n zs room (ap (λ (p : Page). p .level) wrote ∙ e)
-      (record { lives = subst (λ (p : Page). within (p .start) (p .end) w ≡ true) (sym wrote) (both-intro _ _ (le-leb w w (omega arith)) (lt-ltb w alive lim)); many = subst (λ (vs : List Pair). least ≤ length vs) (sym shown) enough })
+      (record {
+        lives = subst (λ (p : Page). within (p .start) (p .end) w ≡ true) (sym wrote)
+            (both-intro _ _ (le-leb w w (omega arith)) (lt-ltb w alive lim));
+        many = subst (λ (vs : List Pair). least ≤ length vs) (sym shown) enough;
+      })
       (subst (Some least w) (sym shown) s)
       (subst (λ (vs : List Pair). Holds least w l qs a b vs zs) (sym shown) h)
 
-  module _ (T : ℕ → Type 0) (ps : List Page) (l lo hi level : ℕ) (rs gs : List Pair) (e : level ≡ suc l) (room : lo < hi) (low : lowKey rs ≡ lo)
+  module _ (T : ℕ → Type 0) (ps : List Page) (l lo hi level : ℕ) (rs gs : List Pair) (e : level ≡ suc l) (room : lo < hi)
+      (low : lowKey rs ≡ lo)
       (flat : Flat ps l T) (f : Moved T ps (retire w ps rs)) (long : length (retire w ps rs) ≡ length ps) (shape : Olds rs) where
     raise-one : (us : List Pair) (n : ℕ) → least ≤ length us → Use T ps n → Some least w us → Holds least w l ps lo hi us gs
         → Raised T ps (set (retire w ps rs) n (filled w level us)) l lo hi rs (pair (lowKey rs) n ∷ []) gs
     raise-one us n enough u s h =
         let qs : List Page = set (retire w ps rs) n (filled w level us) in
         let t : Moved T ps qs = moved-set T ps (retire w ps rs) n (filled w level us) f (u .touched) in
-        let wrote : page qs n ≡ filled w level us = getD-set-same (retire w ps rs) n (filled w level us) free (subst (λ (k : ℕ). n < k) (sym long) (u .in-list)) in
+        let wrote : page qs n ≡ filled w level us
+        = getD-set-same (retire w ps rs) n (filled w level us) free (subst (λ (k : ℕ). n < k) (sym long) (u .in-list)) in
         record {
           touch = t;
           row = record {
@@ -120,30 +130,39 @@ module _ (least w : ℕ) (lim : w < alive) where
             others = [];
             low = low;
             room = room;
-            here = new-tree ps qs l lo hi n level us gs e room enough wrote s (frame least w ps qs l lo hi us gs (moved-under T ps qs l flat t lo hi) h);
+            here = new-tree ps qs l lo hi n level us gs e room enough wrote s
+                (frame least w ps qs l lo hi us gs (moved-under T ps qs l flat t lo hi) h);
             rest = record { met = refl; nothing = refl };
             all-of = sym (append-nil gs);
           };
           change = exchange-1 rs n shape;
         }
 
-    raise-two : (us : List Pair) (v : Pair) (vs ys : List Pair) (n m : ℕ) → ys ≡ v ∷ vs → least ≤ length us → least ≤ length ys → Use T ps n → Use T ps m → n ≢ m → Some least w us → Cut least w ps l lo hi us v vs gs
-        → Raised T ps (set (set (retire w ps rs) n (filled w level us)) m (filled w level ys)) l lo hi rs (pair (lowKey rs) n ∷ pair (lowKey ys) m ∷ []) gs
+    raise-two : (us : List Pair) (v : Pair) (vs ys : List Pair) (n m : ℕ) → ys ≡ v ∷ vs → least ≤ length us → least ≤ length ys → Use T ps n
+        → Use T ps m → n ≢ m → Some least w us → Cut least w ps l lo hi us v vs gs
+        → Raised T ps (set (set (retire w ps rs) n (filled w level us)) m (filled w level ys)) l lo hi rs
+        (pair (lowKey rs) n ∷ pair (lowKey ys) m ∷ []) gs
     raise-two us v vs ys n m split many₁ many₂ u x apart s c =
         let q₁ : List Page = set (retire w ps rs) n (filled w level us) in
         let qs : List Page = set q₁ m (filled w level ys) in
         let t₁ : Moved T ps q₁ = moved-set T ps (retire w ps rs) n (filled w level us) f (u .touched) in
         let t : Moved T ps qs = moved-set T ps q₁ m (filled w level ys) t₁ (x .touched) in
         let at-n : page qs n ≡ filled w level us =
-        getD-set-other q₁ m n (filled w level ys) free apart ∙ getD-set-same (retire w ps rs) n (filled w level us) free (subst (λ (k : ℕ). n < k) (sym long) (u .in-list)) in
+        getD-set-other q₁ m n (filled w level ys) free apart
+        ∙ getD-set-same (retire w ps rs) n (filled w level us) free (subst (λ (k : ℕ). n < k) (sym long) (u .in-list)) in
         let at-m : page qs m ≡ filled w level ys =
-        getD-set-same q₁ m (filled w level ys) free (subst (λ (k : ℕ). m < k) (sym (length-set (retire w ps rs) n (filled w level us) ∙ long)) (x .in-list)) in
+        getD-set-same q₁ m (filled w level ys) free
+        (subst (λ (k : ℕ). m < k) (sym (length-set (retire w ps rs) n (filled w level us) ∙ long)) (x .in-list)) in
         let under : (a b : ℕ) → Left least w ps qs l a b = moved-under T ps qs l flat t in
         let second : lowKey ys ≡ v .key = ap lowKey split in
-        let keys₁ = subst (λ (zs : List Pair). inRange lo (v .key) zs ≡ true) (s .is) (holds-keys least w ps l lo (v .key) us (c .first) (c .one)) in
-        let (fl, fh) = both-true (leb lo (s .first .key)) (ltb (s .first .key) (v .key)) (all-cons (λ (z : Pair). within lo (v .key) (z .key)) (s .first) (s .others) keys₁ .0) in
+        let keys₁ = subst (λ (zs : List Pair). inRange lo (v .key) zs ≡ true) (s .is)
+        (holds-keys least w ps l lo (v .key) us (c .first) (c .one)) in
+        let (fl, fh) = both-true (leb lo (s .first .key)) (ltb (s .first .key) (v .key))
+        (all-cons (λ (z : Pair). within lo (v .key) (z .key)) (s .first) (s .others) keys₁ .0) in
         let lo-v : lo < v .key = omega (arith, leb-true lo (s .first .key) fl, ltb-true (s .first .key) (v .key) fh) in
-        let (vl, vh) = both-true (leb (v .key) (v .key)) (ltb (v .key) hi) (all-cons (λ (z : Pair). within (v .key) hi (z .key)) v vs (holds-keys least w ps l (v .key) hi (v ∷ vs) (c .second) (c .two)) .0) in
+        let (vl, vh) = both-true (leb (v .key) (v .key)) (ltb (v .key) hi)
+        (all-cons (λ (z : Pair). within (v .key) hi (z .key)) v vs
+        (holds-keys least w ps l (v .key) hi (v ∷ vs) (c .second) (c .two)) .0) in
         let v-hi : v .key < hi = ltb-true (v .key) hi vh in
         record {
           touch = t;
@@ -153,7 +172,8 @@ module _ (least w : ℕ) (lim : w < alive) where
             others = c .second;
             low = low;
             room = lo-v;
-            here = new-tree ps qs l lo (v .key) n level us (c .first) e lo-v many₁ at-n s (frame least w ps qs l lo (v .key) us (c .first) (under lo (v .key)) (c .one));
+            here = new-tree ps qs l lo (v .key) n level us (c .first) e lo-v many₁ at-n s
+                (frame least w ps qs l lo (v .key) us (c .first) (under lo (v .key)) (c .one));
             rest = record {
               mid = hi;
               mine = c .second;
@@ -161,7 +181,8 @@ module _ (least w : ℕ) (lim : w < alive) where
               low = second;
               room = v-hi;
               here = new-tree ps qs l (v .key) hi m level ys (c .second) e v-hi many₂ at-m (record { first = v; others = vs; is = split })
-                  (subst (λ (zs : List Pair). Holds least w l qs (v .key) hi zs (c .second)) (sym split) (frame least w ps qs l (v .key) hi (v ∷ vs) (c .second) (under (v .key) hi) (c .two)));
+                  (subst (λ (zs : List Pair). Holds least w l qs (v .key) hi zs (c .second)) (sym split)
+                  (frame least w ps qs l (v .key) hi (v ∷ vs) (c .second) (under (v .key) hi) (c .two)));
               rest = record { met = refl; nothing = refl };
               all-of = sym (append-nil (c .second));
             };
@@ -170,7 +191,8 @@ module _ (least w : ℕ) (lim : w < alive) where
           change = exchange-2 rs n (pair (lowKey ys) m) shape (omega (arith, second, low));
         }
 
-    pub raise-by : 2 ≤ least → (b : Bool) (us : List Pair) (ns : List ℕ) → (b ≡ true → least ≤ length us) → leb (length us) (4 * least) ≡ b → Uses T ps ns → Apart ns → Some least w us → Holds least w l ps lo hi us gs
+    pub raise-by : 2 ≤ least → (b : Bool) (us : List Pair) (ns : List ℕ) → (b ≡ true → least ≤ length us) → leb (length us) (4 * least) ≡ b
+        → Uses T ps ns → Apart ns → Some least w us → Holds least w l ps lo hi us gs
         → RebuiltShows T ps l lo hi rs gs (Rules.rebuildWith w level ps rs (Rules.partsBy b us) ns)
     unfolding Rules.rebuildWith Rules.partsBy
     raise-by two-or-more true us [] enough t u a s h = tt
@@ -181,6 +203,10 @@ module _ (least w : ℕ) (lim : w < alive) where
         let k : ℕ = (length us + 1) / 2 in
         let big : 4 * least < length us = leb-false (length us) (4 * least) t in
         let split : drop k us ≡ getD us k (pair 0 0) ∷ drop (suc k) us = drop-cons us k (pair 0 0) (omega arith) in
-        let parts : us ≡ take k us ++ (getD us k (pair 0 0) ∷ drop (suc k) us) = sym (take-append-drop k us) ∙ ap (λ (zs : List Pair). take k us ++ zs) split in
-        raise-two (take k us) (getD us k (pair 0 0)) (drop (suc k) us) (drop k us) n m split (omega (arith, length-take-le k us (omega arith))) (omega (arith, length-drop k us)) (u .0) (u .1 .0) a (some-take least w k us s (omega arith))
-        (holds-cut least w ps l lo hi (take k us) (getD us k (pair 0 0)) (drop (suc k) us) gs (subst (λ (zs : List Pair). Holds least w l ps lo hi zs gs) parts h))
+        let parts : us ≡ take k us ++ (getD us k (pair 0 0) ∷ drop (suc k) us) = sym (take-append-drop k us)
+        ∙ ap (λ (zs : List Pair). take k us ++ zs) split in
+        raise-two (take k us) (getD us k (pair 0 0)) (drop (suc k) us) (drop k us) n m split
+        (omega (arith, length-take-le k us (omega arith))) (omega (arith, length-drop k us)) (u .0) (u .1 .0) a
+        (some-take least w k us s (omega arith))
+        (holds-cut least w ps l lo hi (take k us) (getD us k (pair 0 0)) (drop (suc k) us) gs
+        (subst (λ (zs : List Pair). Holds least w l ps lo hi zs gs) parts h))

@@ -47,7 +47,8 @@ module _ (least w : ℕ) (lim : w < alive) (T : ℕ → Type 0) (ps : List Page)
   uses-append [] ms a b = b
   uses-append (n ∷ ns) ms a b = (a .0, uses-append ns ms (a .1) b)
 
-  uses-active : (rs : List Pair) → Members rs → Uses least w lim T ps (those (λ (n : ℕ). active w (page ps n)) (map (λ (r : Pair). r .value) rs))
+  uses-active : (rs : List Pair) → Members rs → Uses least w lim T ps
+      (those (λ (n : ℕ). active w (page ps n)) (map (λ (r : Pair). r .value) rs))
   uses-active [] m = tt
   uses-active (r ∷ rs) m =
       uses-keep (active w (page ps (r .value))) (r .value) (those (λ (n : ℕ). active w (page ps n)) (map (λ (q : Pair). q .value) rs))
@@ -67,7 +68,8 @@ module _ (least w : ℕ) (lim : w < alive) (T : ℕ → Type 0) (ps : List Page)
   none-head : {k n : ℕ} {ms : List ℕ} → _≡_ {A = List ℕ} [] (n ∷ ms) → k ≤ n
   none-head e = let z : _≡_ {A = ℕ} 0 1 = cc in absurd (omega arith)
 
-  frees : (k : ℕ) (qs : List Page) → ((i : ℕ) → page qs i ≡ page ps (k + i)) → ((i : ℕ) → i < length qs → k + i < length ps) → Frees k (freeFrom k qs)
+  frees : (k : ℕ) (qs : List Page) → ((i : ℕ) → page qs i ≡ page ps (k + i)) → ((i : ℕ) → i < length qs → k + i < length ps)
+      → Frees k (freeFrom k qs)
   frees k [] h g = record { uses = tt; zeros = tt; apart = tt; from = λ n ms e. none-head e }
   frees k (q ∷ qs) h g =
       at (isFree q) refl (frees (suc k) qs (λ i. h (suc i) ∙ ap (page ps) (omega arith)) (λ i z. omega (arith, g (suc i) (omega arith))))
@@ -93,7 +95,9 @@ module _ (least w : ℕ) (lim : w < alive) (T : ℕ → Type 0) (ps : List Page)
 
   pub uses-usable : (rs : List Pair) → Members rs → Uses least w lim T ps (usable w ps rs)
   unfolding Rules.usable
-  uses-usable rs m = uses-append (those (λ (n : ℕ). active w (page ps n)) (map (λ (r : Pair). r .value) rs)) (freeOnes ps) (uses-active rs m) (frees-all .uses)
+  uses-usable rs m =
+      uses-append (those (λ (n : ℕ). active w (page ps n)) (map (λ (r : Pair). r .value) rs)) (freeOnes ps) (uses-active rs m)
+      (frees-all .uses)
 
   -- the first two differ
   one-apart : (n : ℕ) (ns : List ℕ) → page ps n .level ≡ suc l → Zeros ns → Apart (n ∷ ns)
@@ -104,7 +108,8 @@ module _ (least w : ℕ) (lim : w < alive) (T : ℕ → Type 0) (ps : List Page)
   keep-apart true n ns e z a = one-apart n ns e z
   keep-apart false n ns e z a = a
 
-  keep-two : (b c : Bool) (n m : ℕ) (ns : List ℕ) → page ps n .level ≡ suc l → page ps m .level ≡ suc l → n ≢ m → Zeros ns → Apart ns → Apart (keep b n (keep c m []) ++ ns)
+  keep-two : (b c : Bool) (n m : ℕ) (ns : List ℕ) → page ps n .level ≡ suc l → page ps m .level ≡ suc l → n ≢ m → Zeros ns → Apart ns
+      → Apart (keep b n (keep c m []) ++ ns)
   keep-two true true n m ns e f d z a = d
   keep-two true false n m ns e f d z a = one-apart n ns e z
   keep-two false c n m ns e f d z a = keep-apart c m ns f z a
@@ -116,6 +121,8 @@ module _ (least w : ℕ) (lim : w < alive) (T : ℕ → Type 0) (ps : List Page)
 
   pub apart-usable : (rs : List Pair) → Olds rs → Members rs → Unlike rs → Apart (usable w ps rs)
   unfolding Rules.usable
-  apart-usable rs (lone r) m d = keep-apart (active w (page ps (r .value))) (r .value) (freeOnes ps) (m .0 .level) (frees-all .zeros) (frees-all .apart)
+  apart-usable rs (lone r) m d =
+      keep-apart (active w (page ps (r .value))) (r .value) (freeOnes ps) (m .0 .level) (frees-all .zeros) (frees-all .apart)
   apart-usable rs (twin r q h) m d =
-      keep-two (active w (page ps (r .value))) (active w (page ps (q .value))) (r .value) (q .value) (freeOnes ps) (m .0 .level) (m .1 .0 .level) d (frees-all .zeros) (frees-all .apart)
+      keep-two (active w (page ps (r .value))) (active w (page ps (q .value))) (r .value) (q .value) (freeOnes ps) (m .0 .level)
+      (m .1 .0 .level) d (frees-all .zeros) (frees-all .apart)

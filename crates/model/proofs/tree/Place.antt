@@ -83,7 +83,8 @@ module _ (w : ℕ) where
       let (first, later) = both-true (all (byKey e) es) (inOrder byKey es) o in
       rw (before-born x e here) (at (ltb (x .key) (e .key)) (liveAt w e) refl refl first (show-enter lim x es later rest))
     where
-      at : (a b : Bool) → ltb (x .key) (e .key) ≡ a → liveAt w e ≡ b → all (byKey e) es ≡ true → shown (enter (born w x) es) ≡ enterPair x (shown es)
+      at : (a b : Bool) → ltb (x .key) (e .key) ≡ a → liveAt w e ≡ b → all (byKey e) es ≡ true
+          → shown (enter (born w x) es) ≡ enterPair x (shown es)
           → shown (placed a (born w x) e es (enter (born w x) es)) ≡ enterPair x (map pairOf (keep (liveAt w e) e (those (liveAt w) es)))
       at true b p q f ih =
           rw (born-live lim x) (sym (enter-first x (e ∷ es) (both-intro _ _ p (above (x .key) e es f (ltb-true (x .key) (e .key) p)))))
@@ -91,7 +92,8 @@ module _ (w : ℕ) where
       at false false p q f ih = rw q ih
 
   -- the order stays
-  pub order-enter : (x : Pair) (es : List Entry) → inOrder byKey es ≡ true → all (λ (e : Entry). leb (e .start) w) es ≡ true → inOrder byKey (enter (born w x) es) ≡ true
+  pub order-enter : (x : Pair) (es : List Entry) → inOrder byKey es ≡ true → all (λ (e : Entry). leb (e .start) w) es ≡ true
+      → inOrder byKey (enter (born w x) es) ≡ true
   order-enter x [] o h = refl
   order-enter x (e ∷ es) o h =
       let (here, rest) = all-cons (λ (y : Entry). leb (y .start) w) e es h in
@@ -104,7 +106,8 @@ module _ (w : ℕ) where
           let (a, b) = all-cons (byKey e) y ys f in
           both-intro _ _ (le-leb (x .key) (y .key) (omega (arith, leb-true (e .key) (y .key) a))) (up l ys b)
 
-      at : (b : Bool) → ltb (x .key) (e .key) ≡ b → all (byKey e) es ≡ true → inOrder byKey es ≡ true → inOrder byKey (enter (born w x) es) ≡ true
+      at : (b : Bool) → ltb (x .key) (e .key) ≡ b → all (byKey e) es ≡ true → inOrder byKey es ≡ true
+          → inOrder byKey (enter (born w x) es) ≡ true
           → inOrder byKey (placed b (born w x) e es (enter (born w x) es)) ≡ true
       at true p f l ih =
           let less : x .key < e .key = ltb-true (x .key) (e .key) p in
@@ -115,7 +118,8 @@ module _ (w : ℕ) where
       → shown (bornAll w xs es) ≡ enterAll xs (shown es)
   show-born lim [] es o h = refl
   show-born lim (x ∷ xs) es o h =
-      show-born lim xs (enter (born w x) es) (order-enter x es o h) (all-enter (λ (e : Entry). leb (e .start) w) (born w x) (le-leb w w (omega arith)) es h)
+      show-born lim xs (enter (born w x) es) (order-enter x es o h)
+      (all-enter (λ (e : Entry). leb (e .start) w) (born w x) (le-leb w w (omega arith)) es h)
       ∙ ap (enterAll xs) (show-enter lim x es o h)
 
   pub order-end : (g : Entry → Bool) (es : List Entry) → inOrder byKey es ≡ true → inOrder byKey (endThose g w es) ≡ true
@@ -124,13 +128,15 @@ module _ (w : ℕ) where
       let (first, later) = both-true (all (byKey e) es) (inOrder byKey es) o in
       at (g e) (eqb (e .start) w) (all-end (byKey e) g w (λ x h. h) es first) (order-end g es later)
     where
-      at : (b c : Bool) → all (byKey e) (endThose g w es) ≡ true → inOrder byKey (endThose g w es) ≡ true → inOrder byKey (endOne b c w e (endThose g w es)) ≡ true
+      at : (b c : Bool) → all (byKey e) (endThose g w es) ≡ true → inOrder byKey (endThose g w es) ≡ true
+          → inOrder byKey (endOne b c w e (endThose g w es)) ≡ true
       at false c f ih = both-intro _ _ f ih
       at true true f ih = ih
       at true false f ih = both-intro _ _ f ih
 
   -- A change made in place shows the wanted list.
-  pub show-changed : w < alive → (c : Change) (p : Page) → inOrder byKey (p .entries) ≡ true → all (λ (e : Entry). leb (e .start) w) (p .entries) ≡ true
+  pub show-changed : w < alive → (c : Change) (p : Page) → inOrder byKey (p .entries) ≡ true
+      → all (λ (e : Entry). leb (e .start) w) (p .entries) ≡ true
       → pairsAt w (changed w c p) ≡ wanted w c p
   show-changed lim c p o h =
       show-born lim (c .take) _ (order-end _ (p .entries) o) (all-end (λ (e : Entry). leb (e .start) w) _ w (λ e y. y) (p .entries) h)

@@ -2,15 +2,15 @@
 -- Assumes nothing.
 use Prim.Native.Nat.{ℕ, zero, suc, _≤_, _<_}
 use native.Mathlib.Omega.{arith}
-use mathlib.Core.Bool.{Bool, true, false}
+use mathlib.Core.Bool.{true}
 use mathlib.Core.Option.{Option, none, some}
 use mathlib.Core.Path.{_≡_, refl, ap, ap₂, sym, _∙_, subst}
 use mathlib.Core.Logic.{_⊎_, inl, inr, _≢_}
 use mathlib.Core.List.{List, [], _∷_, _++_, append-assoc, append-nil}
-use lib.Dec.{leb, ltb, eqb}
+use lib.Dec.{leb, ltb}
 use lib.ListN.{length, set}
 use lib.Seq.{getD-set-same, getD-set-other}
-use borrow.Author.Tests.{ltb-true, leb-true, eqb-true, eqb-false}
+use borrow.Author.Tests.{ltb-true, leb-true}
 use Rattle.model.specs.Basic.{all, inOrder}
 use Rattle.model.specs.declared.Entry.{Entry}
 use Rattle.model.specs.declared.Pair.{Pair}
@@ -19,10 +19,12 @@ use Rattle.model.specs.Page.{Page, Change, free, pairsAt, wanted, change
 use Rattle.model.specs.Store.{page}
 use Rattle.model.specs.Sound.{fewest}
 use Rattle.model.specs.Walk.{Around, keyLimit}
+use Rattle.model.specs.Tree.{Fair, Row, Holds, inRange}
 use Rattle.model.proofs.lists.Lists.{both-true, all-cons}
+use Rattle.model.proofs.lists.Bools.{same?}
 use Rattle.model.proofs.tree.Place.{byKey, show-changed}
-use Rattle.model.proofs.tree.Tree.{Fair, Row, Holds, Tree, Away, unused, higher, elsewhere, Left, frame, frame-row, row-append, row-le}
-use Rattle.model.proofs.tree.Local.{inRange, holds-keys}
+use Rattle.model.proofs.tree.Tree.{Tree, Away, unused, higher, elsewhere, Left, frame, frame-row, row-append, row-le}
+use Rattle.model.proofs.tree.Local.{holds-keys}
 
 -- the page list after a store
 pub in-list : (ps : List Page) (n l : ℕ) → page ps n .level ≡ suc l → n < length ps
@@ -30,24 +32,19 @@ in-list [] n l e = absurd (omega (arith, e))
 in-list (p ∷ ps) zero l e = omega arith
 in-list (p ∷ ps) (suc n) l e = omega (arith, in-list ps n l e)
 
-pub same? : (m n : ℕ) → (m ≡ n) ⊎ (m ≢ n)
-same? m n = at (eqb m n) refl
-  where
-    at : (b : Bool) → eqb m n ≡ b → (m ≡ n) ⊎ (m ≢ n)
-    at true e = inl (eqb-true m n e)
-    at false e = inr (eqb-false m n e)
-
 module _ (least w : ℕ) where
   -- page m is not used, or is of level h and has a key from lo up to hi
   pub data Touched (ps : List Page) (h lo hi m : ℕ) : Type 0 where
     spare : page ps m .level ≡ 0 → Touched ps h lo hi m
-    inside : page ps m .level ≡ h → (x : Pair) (rest : List Pair) → pairsAt w (page ps m) ≡ x ∷ rest → lo ≤ x .key → x .key < hi → Touched ps h lo hi m
+    inside : page ps m .level ≡ h → (x : Pair) (rest : List Pair) → pairsAt w (page ps m) ≡ x ∷ rest → lo ≤ x .key → x .key < hi
+        → Touched ps h lo hi m
 
   -- from ps to qs only such pages change
   abbrev pub Touch : List Page → List Page → ℕ → ℕ → ℕ → Type 0
   Touch ps qs h lo hi = (m : ℕ) → (page qs m ≡ page ps m) ⊎ Touched ps h lo hi m
 
-  pub touch-set : (ps qs : List Page) (h lo hi n : ℕ) (q : Page) → Touch ps qs h lo hi → Touched ps h lo hi n → Touch ps (set qs n q) h lo hi
+  pub touch-set : (ps qs : List Page) (h lo hi n : ℕ) (q : Page) → Touch ps qs h lo hi → Touched ps h lo hi n
+      → Touch ps (set qs n q) h lo hi
   touch-set ps qs h lo hi n q f t m = at (same? m n) (f m)
     where
       at : (m ≡ n) ⊎ (m ≢ n) → (page qs m ≡ page ps m) ⊎ Touched ps h lo hi m → (page (set qs n q) m ≡ page ps m) ⊎ Touched ps h lo hi m
@@ -111,7 +108,8 @@ module _ (least w : ℕ) where
   Standing [] l p = RootFair l p
   Standing (a ∷ up) l p = Fair least w p
 
-  pub record ParentPlace (Stand : Page → Type 0) (Outer : ℕ → ℕ → ℕ → List Pair → List Pair → Type 0) (ps : List Page) (l lo hi n : ℕ) (a : Around) (xs ys : List Pair) : Type 0 where
+  pub record ParentPlace (Stand : Page → Type 0) (Outer : ℕ → ℕ → ℕ → List Pair → List Pair → Type 0) (ps : List Page) (l lo hi n : ℕ)
+      (a : Around) (xs ys : List Pair) : Type 0 where
     pub key : a .own .key ≡ lo
     pub value : a .own .value ≡ n
     pub room : lo < hi
@@ -171,14 +169,17 @@ module _ (least w : ℕ) where
         live = ap (pairsAt w) e ∙ s .live;
         befores = s .befores;
         afters = s .afters;
-        lefts = frame-row least w ps qs l (s .low) lo (s .before) (s .befores) (touch-beside ps qs h tlo thi f (suc l) (s .low) lo (inl p)) (s .lefts);
-        rights = frame-row least w ps qs l hi (s .high) (s .after) (s .afters) (touch-beside ps qs h tlo thi f (suc l) hi (s .high) (inr q)) (s .rights);
+        lefts = frame-row least w ps qs l (s .low) lo (s .before) (s .befores) (touch-beside ps qs h tlo thi f (suc l) (s .low) lo (inl p))
+            (s .lefts);
+        rights = frame-row least w ps qs l hi (s .high) (s .after) (s .afters) (touch-beside ps qs h tlo thi f (suc l) hi (s .high) (inr q))
+            (s .rights);
         leftIs = s .leftIs;
         rightIs = s .rightIs;
         company = s .company;
         outBefore = s .outBefore;
         outAfter = s .outAfter;
-        outer = way-left ps qs h tlo thi r f up (suc l) (s .low) (s .high) (s .parent) (s .outBefore) (s .outAfter) (omega arith) (omega arith) (omega arith) (s .outer);
+        outer = way-left ps qs h tlo thi r f up (suc l) (s .low) (s .high) (s .parent) (s .outBefore) (s .outAfter) (omega arith)
+            (omega arith) (omega arith) (s .outer);
         xs-is = s .xs-is;
         ys-is = s .ys-is;
       }
@@ -202,11 +203,13 @@ module _ (least w : ℕ) where
   some-middle [] x a = record { first = x; others = a; is = refl }
   some-middle (y ∷ b) x a = record { first = y; others = b ++ (x ∷ a); is = refl }
 
-  pub tree-of : (ps : List Page) (l lo hi n : ℕ) (zs : List Pair) → lo < hi → page ps n .level ≡ suc l → Fair least w (page ps n) → Some (pairsAt w (page ps n))
+  pub tree-of : (ps : List Page) (l lo hi n : ℕ) (zs : List Pair) → lo < hi → page ps n .level ≡ suc l → Fair least w (page ps n)
+      → Some (pairsAt w (page ps n))
       → Holds least w l ps lo hi (pairsAt w (page ps n)) zs → Tree least w l ps lo hi n zs
   tree-of ps l lo hi n zs room e q s t =
       let i = subst (λ (us : List Pair). inRange lo hi us ≡ true) (s .is) (holds-keys least w ps l lo hi (pairsAt w (page ps n)) zs t) in
-      let (low, high) = both-true (leb lo (s .first .key)) (ltb (s .first .key) hi) (all-cons (λ (x : Pair). within lo hi (x .key)) (s .first) (s .others) i .0) in
+      let (low, high) = both-true (leb lo (s .first .key)) (ltb (s .first .key) hi)
+      (all-cons (λ (x : Pair). within lo hi (x .key)) (s .first) (s .others) i .0) in
       record {
         level = e;
         room = room;
@@ -220,8 +223,10 @@ module _ (least w : ℕ) where
       }
 
   -- a page put into its place: what the root shows
-  pub plug : (ps : List Page) (r : ℕ) (up : List Around) (l lo hi n : ℕ) (xs ys zs : List Pair) → Way ps r l up lo hi n xs ys → page ps n .level ≡ suc l
-      → Standing up l (page ps n) → Some (pairsAt w (page ps n)) → Holds least w l ps lo hi (pairsAt w (page ps n)) zs → Shows ps r (xs ++ (zs ++ ys))
+  pub plug : (ps : List Page) (r : ℕ) (up : List Around) (l lo hi n : ℕ) (xs ys zs : List Pair) → Way ps r l up lo hi n xs ys
+      → page ps n .level ≡ suc l
+      → Standing up l (page ps n) → Some (pairsAt w (page ps n)) → Holds least w l ps lo hi (pairsAt w (page ps n)) zs
+      → Shows ps r (xs ++ (zs ++ ys))
   plug ps r [] l lo hi n xs ys zs t e z s h =
       let h₁ = subst (λ (m : ℕ). Holds least w l ps lo hi (pairsAt w (page ps m)) zs) (t .root) h in
       let h₂ = subst (λ (k : ℕ). Holds least w l ps k hi (pairsAt w (page ps r)) zs) (t .low) h₁ in
@@ -237,15 +242,28 @@ module _ (least w : ℕ) where
       let own : Tree least w l ps lo hi n zs = tree-of ps l lo hi n zs (p .room) e z s h in
       let row : Row (Tree least w l ps) (p .high) (p .before ++ (a .own ∷ p .after)) (p .low) (p .befores ++ (zs ++ p .afters)) =
       row-append (Tree least w l ps) (p .high) lo (p .before) (a .own ∷ p .after) (p .low) (p .befores) (zs ++ p .afters) (p .lefts)
-      (record { mid = hi; mine = zs; others = p .afters; low = p .key; room = p .room; here = subst (λ (m : ℕ). Tree least w l ps lo hi m zs) (sym (p .value)) own; rest = p .rights; all-of = refl }) in
-      subst (Shows ps r) (regroup (p .outBefore) (p .befores) zs (p .afters) (p .outAfter) ∙ ap₂ _++_ (sym (p .xs-is)) (ap (λ (us : List Pair). zs ++ us) (sym (p .ys-is))))
-      (plug ps r up (suc l) (p .low) (p .high) (p .parent) (p .outBefore) (p .outAfter) (p .befores ++ (zs ++ p .afters)) (p .outer) (p .level) (p .standing)
+      (record {
+        mid = hi;
+        mine = zs;
+        others = p .afters;
+        low = p .key;
+        room = p .room;
+        here = subst (λ (m : ℕ). Tree least w l ps lo hi m zs) (sym (p .value)) own;
+        rest = p .rights;
+        all-of = refl;
+      }) in
+      subst (Shows ps r)
+      (regroup (p .outBefore) (p .befores) zs (p .afters) (p .outAfter)
+      ∙ ap₂ _++_ (sym (p .xs-is)) (ap (λ (us : List Pair). zs ++ us) (sym (p .ys-is))))
+      (plug ps r up (suc l) (p .low) (p .high) (p .parent) (p .outBefore) (p .outAfter) (p .befores ++ (zs ++ p .afters)) (p .outer)
+      (p .level) (p .standing)
       (subst Some (sym (p .live)) (some-middle (p .before) (a .own) (p .after)))
       (subst (λ (us : List Pair). Row (Tree least w l ps) (p .high) us (p .low) (p .befores ++ (zs ++ p .afters))) (sym (p .live)) row))
 
   -- a page that takes its change in place
   pub settle : w < alive → (ps : List Page) (r : ℕ) (a : Around) (up : List Around) (l lo hi n : ℕ) (c : Change) (xs ys zs : List Pair)
-      → Way ps r l (a ∷ up) lo hi n xs ys → page ps n .level ≡ suc l → Tidy (page ps n) → Touched ps (suc l) lo hi n → within (page ps n .start) (page ps n .end) w ≡ true → least ≤ length (wanted w c (page ps n))
+      → Way ps r l (a ∷ up) lo hi n xs ys → page ps n .level ≡ suc l → Tidy (page ps n) → Touched ps (suc l) lo hi n
+      → within (page ps n .start) (page ps n .end) w ≡ true → least ≤ length (wanted w c (page ps n))
       → Some (wanted w c (page ps n)) → Holds least w l ps lo hi (wanted w c (page ps n)) zs
       → Shows (set ps n (changed w c (page ps n))) r (xs ++ (zs ++ ys))
   settle lim ps r a up l lo hi n c xs ys zs p e t anchored alive-now enough s h =
@@ -253,7 +271,14 @@ module _ (least w : ℕ) where
       let qs : List Page = set ps n q in
       let f : Touch ps qs (suc l) lo hi = touch-set ps ps (suc l) lo hi n q (λ m. inl refl) anchored in
       let wrote : page qs n ≡ q = getD-set-same ps n q free (in-list ps n l e) in
-      let shown : pairsAt w (page qs n) ≡ wanted w c (page ps n) = ap (pairsAt w) wrote ∙ show-changed w lim c (page ps n) (t .order) (t .starts) in
-      plug qs r (a ∷ up) l lo hi n xs ys zs (way-left ps qs (suc l) lo hi r f (a ∷ up) l lo hi n xs ys (omega arith) (omega arith) (omega arith) p)
-      (ap (λ (z : Page). z .level) wrote ∙ e) (record { lives = subst (λ (z : Page). within (z .start) (z .end) w ≡ true) (sym wrote) alive-now; many = subst (λ (us : List Pair). least ≤ length us) (sym shown) enough }) (subst Some (sym shown) s)
-      (subst (λ (us : List Pair). Holds least w l qs lo hi us zs) (sym shown) (frame least w ps qs l lo hi (wanted w c (page ps n)) zs (touch-under ps qs (suc l) lo hi f l lo hi (omega arith)) h))
+      let shown : pairsAt w (page qs n) ≡ wanted w c (page ps n) = ap (pairsAt w) wrote
+      ∙ show-changed w lim c (page ps n) (t .order) (t .starts) in
+      plug qs r (a ∷ up) l lo hi n xs ys zs
+      (way-left ps qs (suc l) lo hi r f (a ∷ up) l lo hi n xs ys (omega arith) (omega arith) (omega arith) p)
+      (ap (λ (z : Page). z .level) wrote ∙ e)
+      (record {
+        lives = subst (λ (z : Page). within (z .start) (z .end) w ≡ true) (sym wrote) alive-now;
+        many = subst (λ (us : List Pair). least ≤ length us) (sym shown) enough;
+      }) (subst Some (sym shown) s)
+      (subst (λ (us : List Pair). Holds least w l qs lo hi us zs) (sym shown)
+      (frame least w ps qs l lo hi (wanted w c (page ps n)) zs (touch-under ps qs (suc l) lo hi f l lo hi (omega arith)) h))

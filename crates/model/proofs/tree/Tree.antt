@@ -7,74 +7,19 @@ use mathlib.Core.Path.{_≡_, refl, ap, ap₂, sym, _∙_, subst}
 use mathlib.Core.Logic.{_⊎_, inl, inr}
 use mathlib.Core.List.{List, [], _∷_, _++_, append-assoc}
 use lib.Dec.{leb, ltb}
-use lib.ListN.{length}
 use borrow.Author.Tests.{ltb-true, leb-true, lt-ltb, le-leb}
-use Rattle.model.specs.Basic.{all, flatMap, inOrder}
+use Rattle.model.specs.Basic.{all, flatMap}
 use Rattle.model.specs.declared.Pair.{Pair}
 use Rattle.model.specs.Entry.{within}
 use Rattle.model.specs.Page.{Page, pairsAt}
 use Rattle.model.specs.Store.{page}
 use Rattle.model.specs.Walk.{below}
+use Rattle.model.specs.Tree.{Says, Row, Fair, OfPage, Holds}
 use Rattle.model.proofs.lists.Lists.{both-true, both-intro, all-cons}
 
--- What is said of a page by its low key, the next page's low key, its number and its settings.
-abbrev pub Says : Type 1
-Says = ℕ → ℕ → ℕ → List Pair → Type 0
-
--- Routers one after another, from lo up to hi: the first leads to what covers lo up to mid, the rest go on from there.
-pub record Link (S : Says) (Rest : ℕ → List Pair → Type 0) (lo : ℕ) (r : Pair) (zs : List Pair) : Type 0 where
-  pub mid : ℕ
-  pub mine : List Pair
-  pub others : List Pair
-  pub low : r .key ≡ lo
-  pub room : lo < mid
-  pub here : S lo mid (r .value) mine
-  pub rest : Rest mid others
-  pub all-of : zs ≡ mine ++ others
-
-pub record RowEnded (lo hi : ℕ) (zs : List Pair) : Type 0 where
-  pub met : lo ≡ hi
-  pub nothing : zs ≡ []
-
-abbrev pub Row : Says → ℕ → List Pair → ℕ → List Pair → Type 0
-Row S hi [] lo zs = RowEnded lo hi zs
-Row S hi (r ∷ rs) lo zs = Link S (Row S hi rs) lo r zs
-
--- What is said of the pairs of a page, by its low key, the next page's low key and its settings.
-abbrev pub Fills : Type 1
-Fills = ℕ → ℕ → List Pair → List Pair → Type 0
-
--- the pairs of a leaf are its settings
-pub record LeafHolds (lo hi : ℕ) (want zs : List Pair) : Type 0 where
-  pub same : want ≡ zs
-  pub keys : all (λ (x : Pair). within lo hi (x .key)) want ≡ true
-  pub rising : inOrder (λ (x y : Pair). ltb (x .key) (y .key)) want ≡ true
-
--- a page that is not the root, as rules 3, 5 and 6 have it where a walk reaches it
-pub record Fair (least w : ℕ) (p : Page) : Type 0 where
-  pub lives : within (p .start) (p .end) w ≡ true
-  pub many : least ≤ length (pairsAt w p)
-
 module _ (least w : ℕ) where
-  -- a page that is not the root: its level, its pairs, and that it has one
-  pub record OfPage (H : Fills) (l : ℕ) (ps : List Page) (lo hi n : ℕ) (xs : List Pair) : Type 0 where
-    pub level : page ps n .level ≡ suc l
-    pub room : lo < hi
-    pub first : Pair
-    pub others : List Pair
-    pub shown : pairsAt w (page ps n) ≡ first ∷ others
-    pub first-low : lo ≤ first .key
-    pub first-high : first .key < hi
-    pub fair : Fair least w (page ps n)
-    pub holds : H lo hi (pairsAt w (page ps n)) xs
-
-  -- a page l levels above the leaves that holds `want` shows zs
-  abbrev pub Holds : ℕ → List Page → Fills
-  Holds zero ps lo hi want zs = LeafHolds lo hi want zs
-  Holds (suc l) ps lo hi want zs = Row (OfPage (Holds l ps) l ps) hi want lo zs
-
   abbrev pub Tree : ℕ → List Page → Says
-  Tree l ps = OfPage (Holds l ps) l ps
+  Tree l ps = OfPage least w (Holds least w l ps) l ps
 
   -- a tree shows what the walk gives
   row-below : (ps : List Page) (l hi : ℕ) (rs : List Pair) → ((lo hi n : ℕ) (xs : List Pair) → Tree l ps lo hi n xs → below l ps w n ≡ xs)
@@ -87,12 +32,14 @@ module _ (least w : ℕ) where
   tree-below ps zero lo hi n xs t = t .holds .same
   tree-below ps (suc l) lo hi n xs t = row-below ps l hi (pairsAt w (page ps n)) (tree-below ps l) lo xs (t .holds)
 
-  pub holds-below : (ps : List Page) (l lo hi n : ℕ) (zs : List Pair) → Holds l ps lo hi (pairsAt w (page ps n)) zs → below l ps w n ≡ zs
+  pub holds-below : (ps : List Page) (l lo hi n : ℕ) (zs : List Pair) → Holds least w l ps lo hi (pairsAt w (page ps n)) zs
+      → below l ps w n ≡ zs
   holds-below ps zero lo hi n zs h = h .same
   holds-below ps (suc l) lo hi n zs h = row-below ps l hi (pairsAt w (page ps n)) (tree-below ps l) lo zs h
 
 -- rows put together and taken apart
-pub row-append : (S : Says) (hi mid : ℕ) (rs qs : List Pair) (lo : ℕ) (xs ys : List Pair) → Row S mid rs lo xs → Row S hi qs mid ys → Row S hi (rs ++ qs) lo (xs ++ ys)
+pub row-append : (S : Says) (hi mid : ℕ) (rs qs : List Pair) (lo : ℕ) (xs ys : List Pair) → Row S mid rs lo xs → Row S hi qs mid ys
+    → Row S hi (rs ++ qs) lo (xs ++ ys)
 row-append S hi mid [] qs lo xs ys a b = rw (a .met, a .nothing) b
 row-append S hi mid (r ∷ rs) qs lo xs ys a b = record {
   mid = a .mid;
@@ -114,14 +61,24 @@ pub record Split (S : Says) (hi : ℕ) (rs qs : List Pair) (lo : ℕ) (zs : List
   pub both : zs ≡ first ++ second
 
 pub row-split : (S : Says) (hi : ℕ) (rs qs : List Pair) (lo : ℕ) (zs : List Pair) → Row S hi (rs ++ qs) lo zs → Split S hi rs qs lo zs
-row-split S hi [] qs lo zs t = record { mid = lo; first = []; second = zs; one = record { met = refl; nothing = refl }; two = t; both = refl }
+row-split S hi [] qs lo zs t =
+    record { mid = lo; first = []; second = zs; one = record { met = refl; nothing = refl }; two = t; both = refl }
 row-split S hi (r ∷ rs) qs lo zs t =
     let s = row-split S hi rs qs (t .mid) (t .others) (t .rest) in
     record {
       mid = s .mid;
       first = t .mine ++ s .first;
       second = s .second;
-      one = record { mid = t .mid; mine = t .mine; others = s .first; low = t .low; room = t .room; here = t .here; rest = s .one; all-of = refl };
+      one = record {
+        mid = t .mid;
+        mine = t .mine;
+        others = s .first;
+        low = t .low;
+        room = t .room;
+        here = t .here;
+        rest = s .one;
+        all-of = refl;
+      };
       two = s .two;
       both = t .all-of ∙ ap (λ (ys : List Pair). t .mine ++ ys) (s .both) ∙ sym (append-assoc (t .mine) (s .first) (s .second));
     }
@@ -145,16 +102,20 @@ row-map S R hi (r ∷ rs) lo zs f t = record {
 }
 
 -- a wider range
-pub widen : (a b c d : ℕ) (xs : List Pair) → c ≤ a → b ≤ d → all (λ (x : Pair). within a b (x .key)) xs ≡ true → all (λ (x : Pair). within c d (x .key)) xs ≡ true
+pub widen : (a b c d : ℕ) (xs : List Pair) → c ≤ a → b ≤ d → all (λ (x : Pair). within a b (x .key)) xs ≡ true
+    → all (λ (x : Pair). within c d (x .key)) xs ≡ true
 widen a b c d [] p q h = refl
 widen a b c d (x ∷ xs) p q h =
     let (here, more) = all-cons (λ (y : Pair). within a b (y .key)) x xs h in
     let (low, high) = both-true (leb a (x .key)) (ltb (x .key) b) here in
-    both-intro _ _ (both-intro _ _ (le-leb c (x .key) (omega (arith, leb-true a (x .key) low))) (lt-ltb (x .key) d (omega (arith, ltb-true (x .key) b high))))
+    both-intro _ _
+    (both-intro _ _ (le-leb c (x .key) (omega (arith, leb-true a (x .key) low)))
+    (lt-ltb (x .key) d (omega (arith, ltb-true (x .key) b high))))
     (widen a b c d xs p q more)
 
 -- the routers' keys
-pub row-keys : (S : Says) (hi : ℕ) (rs : List Pair) (lo : ℕ) (zs : List Pair) → Row S hi rs lo zs → all (λ (x : Pair). within lo hi (x .key)) rs ≡ true
+pub row-keys : (S : Says) (hi : ℕ) (rs : List Pair) (lo : ℕ) (zs : List Pair) → Row S hi rs lo zs
+    → all (λ (x : Pair). within lo hi (x .key)) rs ≡ true
 row-keys S hi [] lo zs t = refl
 row-keys S hi (r ∷ rs) lo zs t =
     let more : t .mid ≤ hi = row-le S hi rs (t .mid) (t .others) (t .rest) in
@@ -195,7 +156,8 @@ module _ (least w : ℕ) (ps qs : List Page) where
       omega (arith, ap (λ (y : Pair). y .key) same, t .first-high)
 
   -- what is left alone shows what it showed
-  frame-by : (l : ℕ) → ((lo hi : ℕ) (want zs : List Pair) → Left l lo hi → Holds least w l ps lo hi want zs → Holds least w l qs lo hi want zs)
+  frame-by : (l : ℕ)
+      → ((lo hi : ℕ) (want zs : List Pair) → Left l lo hi → Holds least w l ps lo hi want zs → Holds least w l qs lo hi want zs)
       → (lo hi n : ℕ) (xs : List Pair) → Left (suc l) lo hi → Tree least w l ps lo hi n xs → Tree least w l qs lo hi n xs
   frame-by l ih lo hi n xs f t = at (f n)
     where
@@ -223,5 +185,6 @@ module _ (least w : ℕ) (ps qs : List Page) where
   pub frame-tree : (l lo hi n : ℕ) (xs : List Pair) → Left (suc l) lo hi → Tree least w l ps lo hi n xs → Tree least w l qs lo hi n xs
   frame-tree l lo hi n xs f t = frame-by l (frame l) lo hi n xs f t
 
-  pub frame-row : (l lo hi : ℕ) (rs zs : List Pair) → Left (suc l) lo hi → Row (Tree least w l ps) hi rs lo zs → Row (Tree least w l qs) hi rs lo zs
+  pub frame-row : (l lo hi : ℕ) (rs zs : List Pair) → Left (suc l) lo hi → Row (Tree least w l ps) hi rs lo zs
+      → Row (Tree least w l qs) hi rs lo zs
   frame-row l lo hi rs zs f t = frame (suc l) lo hi rs zs f t

@@ -16,10 +16,11 @@ use Rattle.model.specs.Calls.{rule, firstOf}
 use Rattle.model.specs.Return.{Came, Ran, reached, stopped, lacking}
 use Rattle.model.specs.Lent.{Outcome, judgedFirst, leftBy}
 use Rattle.model.specs.Convert.{replay, converted, convertTests, convertLent}
+use Rattle.model.specs.ByRule.{Sound}
+use Rattle.model.specs.Remade.{Upto}
 use Rattle.model.proofs.lists.Lists.{both-true}
-use Rattle.model.proofs.sound.ByRule.{Sound}
 use Rattle.model.proofs.sound.Judging.{accepted, accepted-sound}
-use Rattle.model.proofs.turning.Converted.{Upto, converted-by}
+use Rattle.model.proofs.turning.Converted.{converted-by}
 
 -- what is known of source and target where no test holds
 pub record TestsPassed (b t : List ℕ) : Type 0 where
@@ -28,10 +29,12 @@ pub record TestsPassed (b t : List ℕ) : Type 0 where
   pub long : lengthOk 8 t ≡ true
 
 pub passes : (b t : List ℕ) → firstOf (convertTests b t) ≡ 0 → TestsPassed b t
-passes b t e = at (ltb (length b) 5) (magicOk b) (editionOk 4 b) (lengthOk 4 b) (lengthOk 8 t) refl (isSound 4 b) refl (decode 4 b .opened) refl e
+passes b t e =
+    at (ltb (length b) 5) (magicOk b) (editionOk 4 b) (lengthOk 4 b) (lengthOk 8 t) refl (isSound 4 b) refl (decode 4 b .opened) refl e
   where
     at : (x1 x2 x3 x4 x5 : Bool) → lengthOk 8 t ≡ x5 → (x6 : Bool) → isSound 4 b ≡ x6 → (x7 : Bool) → decode 4 b .opened ≡ x7
-        → firstOf (rule 1 x1 ∷ rule 2 (not x2) ∷ rule 3 (not x3) ∷ rule 1 (not x4 || not x5) ∷ rule 4 (not x6) ∷ rule 8 x7 ∷ []) ≡ 0 → TestsPassed b t
+        → firstOf (rule 1 x1 ∷ rule 2 (not x2) ∷ rule 3 (not x3) ∷ rule 1 (not x4 || not x5) ∷ rule 4 (not x6) ∷ rule 8 x7 ∷ []) ≡ 0
+        → TestsPassed b t
     at true x2 x3 x4 x5 p x6 q x7 r z = absurd (omega (arith, z))
     at false false x3 x4 x5 p x6 q x7 r z = absurd (omega (arith, z))
     at false true false x4 x5 p x6 q x7 r z = absurd (omega (arith, z))
@@ -71,17 +74,21 @@ replayOf b t = replay 8 (decode 4 b) 0 (decode 4 b .current) (fresh (sizeOf 8 t)
 
 pub lent-by : (P : Outcome → Type 0) (b t : List ℕ)
     → (firstOf (convertTests b t) ≢ 0 → P (record { number = firstOf (convertTests b t); store = t }))
-    → (firstOf (convertTests b t) ≡ 0 → TestsPassed b t → (u : Store) → Upto 8 (decode 4 b) (decode 4 b .current) u → replayOf b t ≡ reached u → P (record { number = 0; store = encode 8 u }))
-    → (firstOf (convertTests b t) ≡ 0 → TestsPassed b t → (n : ℕ) (u : Store) → lacking n ≡ true → replayOf b t ≡ stopped n u → P (record { number = n; store = encode 8 (fresh (sizeOf 8 t)) }))
+    → (firstOf (convertTests b t) ≡ 0 → TestsPassed b t → (u : Store) → Upto 8 (decode 4 b) (decode 4 b .current) u
+    → replayOf b t ≡ reached u → P (record { number = 0; store = encode 8 u }))
+    → (firstOf (convertTests b t) ≡ 0 → TestsPassed b t → (n : ℕ) (u : Store) → lacking n ≡ true → replayOf b t ≡ stopped n u
+    → P (record { number = n; store = encode 8 (fresh (sizeOf 8 t)) }))
     → P (convertLent b t)
 unfolding convertLent
 lent-by P b t early whole up = at (firstOf (convertTests b t)) refl
   where
-    at : (m : ℕ) → firstOf (convertTests b t) ≡ m → P (judgedFirst m (λ n. record { number = n; store = t }) (leftBy 8 t (converted 8 (decode 4 b) (sizeOf 8 t))))
+    at : (m : ℕ) → firstOf (convertTests b t) ≡ m
+        → P (judgedFirst m (λ n. record { number = n; store = t }) (leftBy 8 t (converted 8 (decode 4 b) (sizeOf 8 t))))
     at (suc m) e = subst (λ (n : ℕ). P (record { number = n; store = t })) e (early (λ z. absurd (never (sym e ∙ z))))
       where
         never : suc m ≡ 0 → ⊥
         never z = omega (arith, z)
     at zero e =
         let p = passes b t e in
-        converted-by 4 (omega arith) (decode 4 b) (source-sound p) (source-whole p) 8 (omega arith) (λ (q : Came). P (leftBy 8 t q)) (sizeOf 8 t) (six p) (most p) (λ u r q. whole e p u r q) (λ n u l q. up e p n u l q)
+        converted-by 4 (omega arith) (decode 4 b) (source-sound p) (source-whole p) 8 (omega arith) (λ (q : Came). P (leftBy 8 t q))
+        (sizeOf 8 t) (six p) (most p) (λ u r q. whole e p u r q) (λ n u l q. up e p n u l q)

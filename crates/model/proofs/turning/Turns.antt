@@ -18,18 +18,21 @@ use Rattle.model.specs.declared.Slot.{Slot}
 use Rattle.model.specs.Store.{Store, page, last, fresh}
 use Rattle.model.specs.Walk.{rootFrom, below, settings, heightOf, Seen, seenBelow, seen, keyLimit}
 use Rattle.model.specs.Sound.{entryOk, liesWell, keysOk}
+use Rattle.model.specs.Inner.{In}
+use Rattle.model.specs.ByRule.{Readable, Sound, GoodPage, spansWell, numbers, livesAt, enough}
 use Rattle.model.proofs.lists.Lists.{both-intro, all-cons}
-use Rattle.model.proofs.lists.Members.{not-both, either-left, either-right, bool-cases, In, all-by, all-implies}
+use Rattle.model.proofs.lists.Members.{not-both, either-left, either-right, bool-cases, all-by, all-implies}
+use Rattle.model.proofs.lists.Bools.{same?}
 use Rattle.model.proofs.older.Between.{outside, still, pairs-still, leb-still, ltb-still}
-use Rattle.model.proofs.tree.Shows.{same?}
-use Rattle.model.proofs.sound.ByRule.{Readable, old-current, Sound, GoodPage, GoodEntry, Span, span-of, of-span, entry-of, ok-entry, rule7-by, rule7-shut, spansWell, numbers, livesAt, enough}
+use Rattle.model.proofs.sound.ByRule.{old-current, GoodEntry, Span, span-of, of-span, entry-of, ok-entry, rule7-by, rule7-shut}
 use Rattle.model.proofs.reading.Alike.{Alike, alike-seen, alike-settings}
 
 abbrev pub store : ℕ → Bool → ℕ → List Slot → List Page → Store
 store c b old xs ps = record { current = c; opened = b; oldest = old; slots = xs; pages = ps }
 
 -- commit: the same pages, and the same last version
-pub commit-sound : (least c old : ℕ) (xs : List Slot) (ps : List Page) → Sound least (store c true old xs ps) → Sound least (store (suc c) false old xs ps)
+pub commit-sound : (least c old : ℕ) (xs : List Slot) (ps : List Page) → Sound least (store c true old xs ps)
+    → Sound least (store (suc c) false old xs ps)
 commit-sound least c old xs ps d = record {
   long = d .long;
   short = d .short;
@@ -64,7 +67,8 @@ root-next : (c r : ℕ) (xs : List Slot) → all (λ (x : Slot). leb (x .version
 root-next c r [] h = refl
 root-next c r (x ∷ xs) h =
     let (a, b) = all-cons (λ (y : Slot). leb (y .version) c) x xs h in
-    ap (λ (b : Bool). rootFrom (pick b (x .root) r) xs (suc c)) (le-leb (x .version) (suc c) (omega (arith, leb-true (x .version) c a)) ∙ sym a) ∙ root-next c _ xs b
+    ap (λ (b : Bool). rootFrom (pick b (x .root) r) xs (suc c))
+    (le-leb (x .version) (suc c) (omega (arith, leb-true (x .version) c a)) ∙ sym a) ∙ root-next c _ xs b
 
 module _ (least c old : ℕ) (xs : List Slot) (ps : List Page) (d : Sound least (store c false old xs ps)) (room : c < 1048574) where
   abbrev s : Store
@@ -91,7 +95,11 @@ module _ (least c old : ℕ) (xs : List Slot) (ps : List Page) (d : Sound least 
     where
       at : (isFree (page ps n) ≡ true) ⊎ (isFree (page ps n) ≡ false) → pairsAt (suc c) (page ps n) ≡ pairsAt c (page ps n)
       at (inl z) = ap (pairsAt (suc c)) (free-of n z) ∙ sym (ap (pairsAt c) (free-of n z))
-      at (inr u) = sym (pairs-still c (suc c) (omega arith) (page ps n) (all-by (still c (suc c)) (page ps n .entries) (λ e i. let g = entry-of least s d n u e i in both-intro _ _ (outside-start (e .start) (e .end) (g .span)) (outside-end (e .start) (e .end) (g .span)))))
+      at (inr u) =
+          sym (pairs-still c (suc c) (omega arith) (page ps n)
+          (all-by (still c (suc c)) (page ps n .entries)
+          (λ e i. let g = entry-of least s d n u e i in
+          both-intro _ _ (outside-start (e .start) (e .end) (g .span)) (outside-end (e .start) (e .end) (g .span)))))
 
   lives-next : (n : ℕ) → livesAt (suc c) (page ps n) ≡ livesAt c (page ps n)
   lives-next n = at (bool-cases (isFree (page ps n)))
@@ -100,7 +108,9 @@ module _ (least c old : ℕ) (xs : List Slot) (ps : List Page) (d : Sound least 
       at (inl z) = ap (livesAt (suc c)) (free-of n z) ∙ sym (ap (livesAt c) (free-of n z))
       at (inr u) =
           let h = span-of c (page ps n .start) (page ps n .end) (d .pages n u .span) in
-          sym (ap₂ (λ (a b : Bool). not (isFree (page ps n)) && (a && b)) (leb-still c (suc c) (omega arith) (page ps n .start) (outside-start _ _ h)) (ltb-still c (suc c) (omega arith) (page ps n .end) (outside-end _ _ h)))
+          sym (ap₂ (λ (a b : Bool). not (isFree (page ps n)) && (a && b))
+          (leb-still c (suc c) (omega arith) (page ps n .start) (outside-start _ _ h))
+          (ltb-still c (suc c) (omega arith) (page ps n .end) (outside-end _ _ h)))
 
   -- the open version looks as the last one
   pub begin-alike : Alike s c t (suc c)
@@ -137,13 +147,15 @@ module _ (least c old : ℕ) (xs : List Slot) (ps : List Page) (d : Sound least 
       few = g .few;
       span = of-span (suc c) (page ps n .start) (page ps n .end) (wider _ _ (span-of c (page ps n .start) (page ps n .end) (g .span)));
       order = g .order;
-      entries = all-by (entryOk (last t) (length (t .pages)) ((page ps n) .level)) (page ps n .entries) (λ e i. ok-entry t (page ps n) e (entry n u e i) .0);
+      entries = all-by (entryOk (last t) (length (t .pages)) ((page ps n) .level)) (page ps n .entries)
+          (λ e i. ok-entry t (page ps n) e (entry n u e i) .0);
     };
     old-low = d .old-low;
     begins = d .begins;
     newer = d .newer;
     rises = d .rises;
-    upto = all-implies (λ (x : Slot). leb (x .version) c) (λ (x : Slot). leb (x .version) (suc c)) (λ x h. le-leb (x .version) (suc c) (omega (arith, leb-true (x .version) c h))) xs (d .upto);
+    upto = all-implies (λ (x : Slot). leb (x .version) c) (λ (x : Slot). leb (x .version) (suc c))
+        (λ x h. le-leb (x .version) (suc c) (omega (arith, leb-true (x .version) c h))) xs (d .upto);
     spans = λ n u. all-by (liesWell t (page ps n)) (page ps n .entries) (λ e i. ok-entry t (page ps n) e (entry n u e i) .1);
     root-used = d .root-used;
     keys = λ v h. keys-at v (h .from) (split-at v (h .upto));
@@ -153,7 +165,9 @@ module _ (least c old : ℕ) (xs : List Slot) (ps : List Page) (d : Sound least 
   }
     where
       entry : (n : ℕ) → isFree (page ps n) ≡ false → (e : Entry) → In e (page ps n .entries) → GoodEntry t (page ps n) e
-      entry n u e i = let g = entry-of least s d n u e i in record { span = wider _ _ (g .span); key = g .key; kind = g .kind; later = g .later; sooner = g .sooner; leads = g .leads }
+      entry n u e i =
+          let g = entry-of least s d n u e i in
+          record { span = wider _ _ (g .span); key = g .key; kind = g .kind; later = g .later; sooner = g .sooner; leads = g .leads }
 
       upto : (v : ℕ) → old ≤ v → v ≤ c → Readable s v
       upto v from h = record { from = from; upto = h }
@@ -167,7 +181,8 @@ module _ (least c old : ℕ) (xs : List Slot) (ps : List Page) (d : Sound least 
 
       counts-at : (v : ℕ) → old ≤ v → (v ≤ c) ⊎ (v ≡ suc c) → all (enough least) (seen t v) ≡ true
       counts-at v from (inl z) = d .counts v (upto v from z)
-      counts-at v from (inr z) = subst (λ (u : ℕ). all (enough least) (seen t u) ≡ true) (sym z) (ap (all (enough least)) seen-next ∙ d .counts c here)
+      counts-at v from (inr z) =
+          subst (λ (u : ℕ). all (enough least) (seen t u) ≡ true) (sym z) (ap (all (enough least)) seen-next ∙ d .counts c here)
 
       reached-at : (v n : ℕ) → old ≤ v → 5 ≤ n → n < length ps → (v ≤ c) ⊎ (v ≡ suc c) → livesAt v (page ps n) ≡ has n (numbers t v)
       reached-at v n from five inn (inl z) = d .reached v (upto v from z) n five inn
@@ -216,7 +231,8 @@ module _ (least : ℕ) (one : 1 ≤ least) (n : ℕ) (six : 6 ≤ n) (most : n �
 
   seen-f : seen fs 0 ≡ only ∷ []
   seen-f = ap (λ (l : ℕ). seenBelow l (fs .pages) 0 true 0 keyLimit 5) height-f
-      ∙ ap {B = List Seen} (λ (p : Page). record { number = 5; up = 0; isRoot = true; low = 0; high = keyLimit; pairs = pairsAt 0 p } ∷ []) page-five
+      ∙ ap {B = List Seen} (λ (p : Page). record { number = 5; up = 0; isRoot = true; low = 0; high = keyLimit; pairs = pairsAt 0 p } ∷ [])
+      page-five
 
   pub fresh-shows : settings fs 0 ≡ []
   fresh-shows = ap (λ (l : ℕ). below l (fs .pages) 0 5) height-f ∙ ap (pairsAt 0) page-five
@@ -233,25 +249,30 @@ module _ (least : ℕ) (one : 1 ≤ least) (n : ℕ) (six : 6 ≤ n) (most : n �
     roots = both-intro _ _ (both-intro _ _ refl (lt-ltb 5 (length (fs .pages)) (omega (arith, long-f)))) refl;
     front = λ m h. ap isFree (page-other m (λ (z : m ≡ 5). omega arith));
     zeros = λ m h. zero-at m h (same? m 5);
-    pages = λ m u. subst (λ (i : ℕ). GoodPage least fs (page (fs .pages) i)) (sym (used-five m u)) (subst (GoodPage least fs) (sym page-five)
+    pages = λ m u. subst (λ (i : ℕ). GoodPage least fs (page (fs .pages) i)) (sym (used-five m u))
+        (subst (GoodPage least fs) (sym page-five)
         (record { low = omega arith; few = omega arith; span = refl; order = refl; entries = refl }));
     old-low = omega arith;
     begins = omega arith;
     newer = refl;
     rises = refl;
     upto = refl;
-    spans = λ m u. subst (λ (i : ℕ). spansWell fs (page (fs .pages) i) ≡ true) (sym (used-five m u)) (subst (λ (p : Page). spansWell fs p ≡ true) (sym page-five) refl);
+    spans = λ m u. subst (λ (i : ℕ). spansWell fs (page (fs .pages) i) ≡ true) (sym (used-five m u))
+        (subst (λ (p : Page). spansWell fs p ≡ true) (sym page-five) refl);
     root-used = both-intro _ _ (ap (λ (p : Page). not (isFree p)) page-five) refl;
     keys = λ v h. subst (λ (u : ℕ). all keysOk (seen fs u) ≡ true) (sym (at-zero v (h .upto))) (ap (all keysOk) seen-f);
     counts = λ v h. subst (λ (u : ℕ). all (enough least) (seen fs u) ≡ true) (sym (at-zero v (h .upto))) (ap (all (enough least)) seen-f);
-    reached = λ v h m five inn. subst (λ (u : ℕ). livesAt u (page (fs .pages) m) ≡ has m (numbers fs u)) (sym (at-zero v (h .upto))) (reached-at m (same? m 5) ∙ ap (λ (ys : List Seen). has m (map (λ (x : Seen). x .number) ys)) (sym seen-f));
+    reached = λ v h m five inn. subst (λ (u : ℕ). livesAt u (page (fs .pages) m) ≡ has m (numbers fs u)) (sym (at-zero v (h .upto)))
+        (reached-at m (same? m 5) ∙ ap (λ (ys : List Seen). has m (map (λ (x : Seen). x .number) ys)) (sym seen-f));
     young = rule7-shut fs refl;
   }
     where
       zero-at : (m : ℕ) → isFree (page (fs .pages) m) ≡ true → (m ≡ 5) ⊎ (m ≢ 5) → page (fs .pages) m ≡ free
-      zero-at m h (inl e) = absurd (not-both (isFree (page (fs .pages) m)) h (ap (λ (i : ℕ). isFree (page (fs .pages) i)) e ∙ ap isFree page-five))
+      zero-at m h (inl e) =
+          absurd (not-both (isFree (page (fs .pages) m)) h (ap (λ (i : ℕ). isFree (page (fs .pages) i)) e ∙ ap isFree page-five))
       zero-at m h (inr e) = page-other m e
 
       reached-at : (m : ℕ) → (m ≡ 5) ⊎ (m ≢ 5) → livesAt 0 (page (fs .pages) m) ≡ has m (5 ∷ [])
-      reached-at m (inl e) = ap (λ (i : ℕ). livesAt 0 (page (fs .pages) i)) e ∙ ap (livesAt 0) page-five ∙ sym (ap (λ (i : ℕ). has i (5 ∷ [])) e)
+      reached-at m (inl e) =
+          ap (λ (i : ℕ). livesAt 0 (page (fs .pages) i)) e ∙ ap (livesAt 0) page-five ∙ sym (ap (λ (i : ℕ). has i (5 ∷ [])) e)
       reached-at m (inr e) = ap (livesAt 0) (page-other m e) ∙ sym (ap (λ (b : Bool). b || false) (ne-eqb m 5 e))

@@ -2,7 +2,7 @@
 -- Assumes nothing.
 use Prim.Native.Nat.{ℕ, _+_, _≤_, _<_}
 use native.Mathlib.Omega.{arith}
-use mathlib.Core.Bool.{Bool, true, false, _&&_}
+use mathlib.Core.Bool.{Bool, true, false, _&&_, and-false}
 use mathlib.Core.Path.{_≡_, refl, ap, ap₂, sym, _∙_}
 use mathlib.Core.List.{List, [], _∷_}
 use lib.Dec.{leb, ltb, eqb}
@@ -24,10 +24,6 @@ use Rattle.cursor.specs.First.{atOrAbove, leads}
 -- each key is above m
 abbrev over : ℕ → List Pair → Bool
 over m xs = all (λ (y : Pair). ltb m (y .key)) xs
-
-right : (b : Bool) → (b && false) ≡ false
-right true = refl
-right false = refl
 
 -- ---- the first setting at or above k
 
@@ -58,7 +54,7 @@ between-over k hi m (x ∷ xs) o h =
     let (here, rest) = all-cons (λ (y : Pair). ltb m (y .key)) x xs o in
     let e : leb (x .key) hi ≡ false = lt-leb (x .key) hi (omega (arith, ltb-true m (x .key) here)) in
     ap (λ (b : Bool). keep (leb k (x .key) && b) x (between k hi xs)) e
-    ∙ ap (λ (b : Bool). keep b x (between k hi xs)) (right (leb k (x .key))) ∙ between-over k hi m xs rest h
+    ∙ ap (λ (b : Bool). keep b x (between k hi xs)) (and-false (leb k (x .key))) ∙ between-over k hi m xs rest h
 
 -- the first setting at or above k is above hi
 pub between-none : (k hi : ℕ) (xs : List Pair) → rising xs ≡ true → hi < leads (atOrAbove k xs) .key → between k hi xs ≡ []

@@ -29,8 +29,8 @@ level-at-requires c κs =
 returns : tie.Need-returns
 returns c =
     let at-start = c .before .before .before .before .before in
-    let a = at-start .args in
-    cross-free (a .l .least) (a .s .now) (a .low) (a .high) (a .v) (a .list .now)
+    let a = at-start .args in let q = a .q in
+    cross-free (a .l .least) (a .s .now) (q .low) (q .high) (q .version) (a .list .now)
     (rw (c .before .before .root-among .ensures) at (sym (c .before .level-at .ensures)) ∙ c .if1 .taken)
 
 range-right-requires : tie.Need-range-right-requires
@@ -53,10 +53,10 @@ returns-2 c =
     let at-level-at = at-if1 .before in
     let at-root-among = at-level-at .before in
     let at-start = at-root-among .before .before .before in
-    let a = at-start .args in
+    let a = at-start .args in let q = a .q in
     let some : 0 < at-level-at .level-at .result = omega (arith, at-if1 .if1 .left) in
     rw (at-root-among .root-among .ensures) at (c .before .before .by-table .ensures)
-    ∙ cross-by (a .l .least) (a .s .now) (a .low) (a .high) (a .v) (a .list .now) (at-level-at .level-at .result) some
+    ∙ cross-by (a .l .least) (a .s .now) (q .low) (q .high) (q .version) (a .list .now) (at-level-at .level-at .result) some
     (rw (at-root-among .root-among .ensures) at (sym (at-level-at .level-at .ensures)))
 
 returns-3 : tie.Need-returns-3
@@ -66,23 +66,24 @@ returns-3 c =
     let at-level-at = at-if1 .before in
     let at-root-among = at-level-at .before in
     let at-start = at-root-among .before .before .before in
-    let a = at-start .args in
-    let root = rootAt (decode (a .l .least) (a .s .now) .slots) (a .v) in
+    let a = at-start .args in let q = a .q in
+    let root = rootAt (decode (a .l .least) (a .s .now) .slots) (q .version) in
     let some : 0 < at-level-at .level-at .result = omega (arith, at-if1 .if1 .left) in
     let f = rw (at-root-among .root-among .ensures) at
     (sym (at-range-right .range-right .ensures .right (omega (arith, c .before .before .if2 .left))))
     ∙ not-true (at-range-right .range-right .result .fine) (c .if3 .taken) in
     answered-wrong (a .list .now)
-    (rangeRight (a .l .least) (a .s .now) (a .v) (pred (at-level-at .level-at .result)) (a .high) (a .low) root)
-    (rangeBelow (pred (at-level-at .level-at .result)) (decode (a .l .least) (a .s .now) .pages) (a .v) (a .low) (a .high) (a .low) root) f
-    ∙ cross-by (a .l .least) (a .s .now) (a .low) (a .high) (a .v) (a .list .now) (at-level-at .level-at .result) some
+    (rangeRight (a .l .least) (a .s .now) (q .version) (pred (at-level-at .level-at .result)) (q .high) (q .low) root)
+    (rangeBelow (pred (at-level-at .level-at .result)) (decode (a .l .least) (a .s .now) .pages) (q .version) (q .low) (q .high) (q .low)
+    root) f
+    ∙ cross-by (a .l .least) (a .s .now) (q .low) (q .high) (q .version) (a .list .now) (at-level-at .level-at .result) some
     (rw (at-root-among .root-among .ensures) at (sym (at-level-at .level-at .ensures)))
 
 wide-requires : tie.Need-wide-requires
 wide-requires c κs = search needs
 
-sub-fill : tie.Need-sub-fill
-sub-fill c =
+sub-up : tie.Need-sub-up
+sub-up c =
     let at-if1 = c .before .before .before .before .before .before in
     omega (arith, c .wide .ensures, at-if1 .if1 .left)
 
@@ -92,7 +93,7 @@ fill-requires c κs =
     let at-range-right = at-if2 .before .before in
     let at-root-among = at-range-right .before .before .before in
     let at-start = at-root-among .before .before .before in
-    let a = at-start .args in
+    let a = at-start .args in let q = a .q in
     let f = sym (at-range-right .range-right .ensures .right (omega (arith, at-if2 .if2 .left)))
     ∙ not-false (at-range-right .range-right .result .fine) (c .before .before .if3 .left) in
     let u = sub-one (c .before .wide .result) ∙ ap pred (c .before .wide .ensures) in (
@@ -101,7 +102,7 @@ fill-requires c κs =
         sized = rw (at-start .pre .1 .sized .is) (at-start .pre .1 .sized);
         few = at-start .pre .2 .few;
       },
-      subst (λ (m : ℕ). rangeRight (a .l .least) (a .s .now) (a .v) m (a .high) (a .low) (at-root-among .root-among .result) ≡ true)
+      subst (λ (m : ℕ). rangeRight (a .l .least) (a .s .now) (q .version) m (q .high) (q .low) (at-root-among .root-among .result) ≡ true)
           (sym u) f,
     )
 
@@ -118,9 +119,9 @@ returns-4 c =
     let at-level-at = at-if1 .before in
     let at-root-among = at-level-at .before in
     let at-start = at-root-among .before .before .before in
-    let a = at-start .args in
+    let a = at-start .args in let q = a .q in
     let b = a .s .now in
-    let root = rootAt (decode (a .l .least) b .slots) (a .v) in
+    let root = rootAt (decode (a .l .least) b .slots) (q .version) in
     let some : 0 < at-level-at .level-at .result = omega (arith, at-if1 .if1 .left) in
     let f = rw (at-root-among .root-among .ensures) at
     (sym (at-range-right .range-right .ensures .right (omega (arith, at-if2 .if2 .left))))
@@ -128,10 +129,10 @@ returns-4 c =
     let u = sub-one (at-wide .wide .result) ∙ ap pred (at-wide .wide .ensures) in
     rw (at-root-among .root-among .ensures) at (c .before .before .fill .ensures)
     ∙ ap (λ (m : ℕ). listed (a .list .now)
-    (rangedBy 0 (length (a .list .now)) (rangeBelow m (decode (a .l .least) b .pages) (a .v) (a .low) (a .high) (a .low) root))) u
-    ∙ answered-right (a .list .now) (rangeRight (a .l .least) b (a .v) (pred (at-level-at .level-at .result)) (a .high) (a .low) root)
-    (rangeBelow (pred (at-level-at .level-at .result)) (decode (a .l .least) b .pages) (a .v) (a .low) (a .high) (a .low) root) f
-    ∙ cross-by (a .l .least) b (a .low) (a .high) (a .v) (a .list .now) (at-level-at .level-at .result) some
+    (rangedBy 0 (length (a .list .now)) (rangeBelow m (decode (a .l .least) b .pages) (q .version) (q .low) (q .high) (q .low) root))) u
+    ∙ answered-right (a .list .now) (rangeRight (a .l .least) b (q .version) (pred (at-level-at .level-at .result)) (q .high) (q .low) root)
+    (rangeBelow (pred (at-level-at .level-at .result)) (decode (a .l .least) b .pages) (q .version) (q .low) (q .high) (q .low) root) f
+    ∙ cross-by (a .l .least) b (q .low) (q .high) (q .version) (a .list .now) (at-level-at .level-at .result) some
     (rw (at-root-among .root-among .ensures) at (sym (at-level-at .level-at .ensures)))
 
 pub across-spec : {M : Type 1} → statement M
@@ -147,7 +148,7 @@ across-spec =
     returns-2
     returns-3
     wide-requires
-    sub-fill
+    sub-up
     fill-requires
     same-length-2
     returns-4)

@@ -17,7 +17,7 @@ use Rattle.model.specs.Near.{fromRoot, rangeRight, early, rangeNear}
 use Rattle.model.specs.Lent.{judgedFirst, Listed, listed, rangeLent}
 use Rattle.near.specs.Early.{guarded, badRange}
 use Rattle.near.proofs.laws.Early.{chain-on, numbers}
-use Rattle.near.specs.Crossed.{answered, crossed}
+use Rattle.near.specs.Crossed.{answered, crossed, crossedFrom}
 
 pub answered-wrong : (ns : List ℕ) (right : Bool) (xs : List Pair) → right ≡ false
     → record { number = 4; count = 0; list = ns } ≡ answered ns right xs
@@ -64,7 +64,7 @@ module _ (least : ℕ) (b : List ℕ) (lo hi v : ℕ) (ns : List ℕ) where
 
   -- by the walk from the root
   pub cross-by : (level : ℕ) → 0 < level → page ps root .level ≡ level
-      → answered ns (rangeRight least b v (pred level) hi lo root) (rangeBelow (pred level) ps v lo hi lo root) ≡ crossed least b lo hi v ns
+      → crossedFrom least b lo hi v ns level root ≡ crossed least b lo hi v ns
   cross-by zero h e = absurd (omega arith)
   cross-by (suc up) h e = sym (at-level up e)
 

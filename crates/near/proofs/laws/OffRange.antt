@@ -16,7 +16,8 @@ use Rattle.model.specs.Layout.{pageOf, decode}
 use Rattle.model.specs.Calls.{rangedBy}
 use Rattle.model.specs.Near.{pageRight, startsBy, rangeRight}
 use Rattle.model.specs.Lent.{judgedFirst, listed, rangeLent}
-use Rattle.model.proofs.lists.Members.{In, bool-cases, all-in}
+use Rattle.model.specs.Inner.{In}
+use Rattle.model.proofs.lists.Members.{bool-cases, all-in}
 use Rattle.local.proofs.laws.Right.{front-true}
 use Rattle.tabled.proofs.laws.Here.{page-of, all-of}
 use Rattle.near.specs.Early.{guarded, badRange}

@@ -25,10 +25,11 @@ use Rattle.model.specs.Judged.{isSound, lengthOk, magicOk, editionOk}
 use Rattle.model.specs.Calls.{Rule, rule, firstOf, unreadable, get, range}
 use Rattle.model.specs.Near.{frontRight, pageRight, shown, downRight, rangeRight, fromRoot, early, lookupNear, rangeNear}
 use Rattle.model.specs.Lent.{listed, lookupLent, rangeLent}
-use Rattle.model.proofs.lists.Members.{In}
+use Rattle.model.specs.Inner.{In}
+use Rattle.model.specs.ByRule.{Sound}
 use Rattle.model.proofs.lists.Lists.{both-true}
-use Rattle.model.proofs.sound.ByRule as given
-use Rattle.model.proofs.sound.ByRule.{Sound, readable-of}
+use Rattle.model.specs.ByRule as given
+use Rattle.model.proofs.sound.ByRule.{readable-of}
 use Rattle.model.proofs.sound.Ready.{level-used}
 use Rattle.store.proofs.laws.Tested.{pages-clean}
 use Rattle.store.proofs.laws.Sure.{sure, taken, whole}

@@ -1,8 +1,8 @@
 -- Laws about near/specs/Within. Assumes nothing.
 use Prim.Native.Nat.{ℕ, _-_, _<_, _≤_}
 use native.Mathlib.Omega.{arith}
-use mathlib.Core.Bool.{Bool, true, false, _&&_}
-use mathlib.Core.Path.{_≡_, refl, ap, sym, _∙_}
+use mathlib.Core.Bool.{Bool, true, false, _&&_, and-true}
+use mathlib.Core.Path.{_≡_, ap, sym, _∙_}
 use Rattle.near.specs.declared.within.Within.{Within}
 use Rattle.near.specs.Within.{foundAs, NearRight}
 
@@ -12,10 +12,6 @@ given-up left x r e = let z = ap (λ (w : Within). w .left) e in record { less =
 pub settled : (left : ℕ) (b x : Bool) → b ≡ x → (r : Within) → r ≡ foundAs b left → NearRight left x r
 settled left b x e r f =
     let z = ap (λ (w : Within). w .left) f in record { less = omega (arith, z); right = λ lt. ap (λ (w : Within). w .fine) f ∙ e }
-
-and-true : (b : Bool) → (b && true) ≡ b
-and-true true = refl
-and-true false = refl
 
 -- ---- a page's children one after another: x is what r says and z, where something is left
 

@@ -1,6 +1,6 @@
 -- Laws about notes/specs/Both. Assumes nothing.
 use Prim.Native.Nat.{ℕ, _-_, _≤_, _<_}
-use mathlib.Core.Bool.{Bool, true, false, _&&_}
+use mathlib.Core.Bool.{Bool, true, false, _&&_, and-false}
 use mathlib.Core.Path.{_≡_, refl, ap, ap₂, sym, _∙_}
 use mathlib.Core.List.{List}
 use Rattle.model.specs.Basic.{all, count}
@@ -16,10 +16,6 @@ use Rattle.notes.specs.Pass.{keysOn, fullOn}
 use Rattle.notes.proofs.laws.Pass.{keys-on, full-on, run-fails, run-ends, run-stretch, keys-stretch, full-stretch}
 use Rattle.notes.proofs.laws.Over.{keys-next, full-next}
 use Rattle.notes.specs.Both.{bothOn}
-
-and-false : (b : Bool) → (b && false) ≡ false
-and-false true = refl
-and-false false = refl
 
 -- ---- the versions from v up to, not including, c, which have one root
 

@@ -1,7 +1,7 @@
 -- What a note says of the walk: rules 4 and 5 at and below a page. Assumes nothing.
 use Prim.Native.Nat.{ℕ, zero, suc, _+_, _≤_, _<_, max}
 use native.Mathlib.Omega.{arith}
-use mathlib.Core.Bool.{Bool, true, false, _&&_, _||_}
+use mathlib.Core.Bool.{Bool, true, false, _&&_, _||_, or-true, and-true, and-assoc}
 use mathlib.Core.Path.{_≡_, refl, ap, ap₂, sym, _∙_, subst}
 use mathlib.Core.List.{List, [], _∷_, _++_, map, append-nil}
 use lib.Dec.{leb, ltb, eqb, eqb·suc-zero}
@@ -15,9 +15,10 @@ use Rattle.model.specs.Page.{Page, pairsAt}
 use Rattle.model.specs.Store.{page}
 use Rattle.model.specs.Walk.{Seen, seenUnder, seenBelow, spread}
 use Rattle.model.specs.Sound.{keysOk, startsAt}
+use Rattle.model.specs.ByRule.{enough}
 use Rattle.model.proofs.lists.Lists.{both-true, both-intro, all-cons}
 use Rattle.model.proofs.lists.Rising.{rising, lower, lower-carries, in-order-rising}
-use Rattle.model.proofs.sound.ByRule.{enough}
+use Rattle.model.proofs.lists.Bools.{same-test}
 use Rattle.notes.specs.declared.Note.{Note}
 use Rattle.notes.specs.Notes.{nothing, lowFine, fits, filled, joinedIf, joins, waits, stepIf, row, noteAt}
 use Rattle.notes.proofs.laws.Laws.{row-bad, wrong}
@@ -57,11 +58,7 @@ module _ (least up v : ℕ) (f : ℕ → Note) where
 
   pub row-chain : (es : List Entry) (x : Note) (hi : ℕ) → x .keys ≡ true → Row es x hi
   unfolding row chain
-  row-chain [] x hi k = rw k (sym (one (leb (x .high) hi)))
-    where
-      one : (b : Bool) → (b && true) ≡ b
-      one true = refl
-      one false = refl
+  row-chain [] x hi k = rw k (sym (and-true (leb (x .high) hi)))
   row-chain (e ∷ es) x hi k = at (leb (e .start) v) (ltb v (e .end)) (λ y q. row-chain es y hi q)
     where
       kid : Note
@@ -135,18 +132,10 @@ module _ (least up v : ℕ) (f : ℕ → Note) where
   abbrev fine : Pair → Bool
   fine p = filled least up (f (p .value))
 
-  and-group : (a b c : Bool) → (a && b && c) ≡ (a && (b && c))
-  and-group true b c = refl
-  and-group false b c = refl
-
   pub row-full : (es : List Entry) (x : Note) → row least up v f x es .keys ≡ true
       → row least up v f x es .full ≡ (x .full && all fine (livesOf v es))
   unfolding row
-  row-full [] x k = one (x .full)
-    where
-      one : (b : Bool) → b ≡ (b && true)
-      one true = refl
-      one false = refl
+  row-full [] x k = sym (and-true (x .full))
   row-full (e ∷ es) x k = at (leb (e .start) v) (ltb v (e .end)) k (λ y q. row-full es y q)
     where
       kid : Note
@@ -155,7 +144,7 @@ module _ (least up v : ℕ) (f : ℕ → Note) where
       by : (c : Bool) → row least up v f (joinedIf c least up x e kid) es .keys ≡ true
           → ((y : Note) → row least up v f y es .keys ≡ true → row least up v f y es .full ≡ (y .full && all fine (livesOf v es)))
           → row least up v f (joinedIf c least up x e kid) es .full ≡ (x .full && (filled least up kid && all fine (livesOf v es)))
-      by true q ih = ih (joinedIf true least up x e kid) q ∙ and-group (x .full) (filled least up kid) (all fine (livesOf v es))
+      by true q ih = ih (joinedIf true least up x e kid) q ∙ and-assoc (x .full) (filled least up kid) (all fine (livesOf v es))
       by false q ih = wrong (ap (λ (y : Note). y .keys) (sym (row-bad least up v f es)) ∙ q)
 
       at : (a b : Bool) → row least up v f (stepIf a b least up x e kid) es .keys ≡ true
@@ -209,13 +198,9 @@ climbs-rising hi (x ∷ y ∷ zs) h =
 
 -- ---- the chain is the walk below
 
-all-append : {A : Type 0} (g : A → Bool) (a b : List A) → all g (a ++ b) ≡ (all g a && all g b)
-all-append g [] b = refl
-all-append g (x ∷ a) b = ap (λ (c : Bool). g x && c) (all-append g a b) ∙ sym (group (g x) (all g a) (all g b))
-  where
-    group : (p q r : Bool) → (p && q && r) ≡ (p && (q && r))
-    group true q r = refl
-    group false q r = refl
+all-both : {A : Type 0} (g : A → Bool) (a b : List A) → all g (a ++ b) ≡ (all g a && all g b)
+all-both g [] b = refl
+all-both g (x ∷ a) b = ap (λ (c : Bool). g x && c) (all-both g a b) ∙ sym (and-assoc (g x) (all g a) (all g b))
 
 pub spread-cons : (F : ℕ → ℕ → ℕ → List Seen) (x : Pair) (xs : List Pair) (high : ℕ)
     → spread F (x ∷ xs) high ≡ F (x .key) (firstKey xs high) (x .value) ++ spread F xs high
@@ -246,11 +231,7 @@ chain-leaf f z [] hi = refl
 chain-leaf f z (x ∷ xs) hi =
     ap₂ _&&_ (leb-max (x .key) (f (x .value) .high) (firstKey xs hi)
     ∙ ap (λ (b : Bool). ltb (x .key) (firstKey xs hi) && b) (le-leb (f (x .value) .high) (firstKey xs hi) (omega (arith, z (x .value))))
-    ∙ one (ltb (x .key) (firstKey xs hi))) (chain-leaf f z xs hi)
-  where
-    one : (b : Bool) → (b && true) ≡ b
-    one true = refl
-    one false = refl
+    ∙ and-true (ltb (x .key) (firstKey xs hi))) (chain-leaf f z xs hi)
 
 module _ (ps : List Page) (v : ℕ) where
   -- what a walk sees of a page that a router leads to
@@ -269,14 +250,8 @@ module _ (ps : List Page) (v : ℕ) where
       ∙ shuffle (k .keys && lowFine up (x .key) k) (ltb (x .key) h) (leb (k .high) h) (climbs xs hi) (all keysOk (spread (kidsOf up) xs hi))
       ∙ ap (λ (b : Bool). ltb (x .key) h && climbs xs hi && (b && all keysOk (spread (kidsOf up) xs hi))) (sym (ih (x .key) h (x .value)))
       ∙ ap (λ (b : Bool). ltb (x .key) h && climbs xs hi && b)
-      (sym (all-append keysOk (kidsOf up (x .key) h (x .value)) (spread (kidsOf up) xs hi)))
+      (sym (all-both keysOk (kidsOf up (x .key) h (x .value)) (spread (kidsOf up) xs hi)))
       ∙ ap (λ (s : List Seen). ltb (x .key) h && climbs xs hi && all keysOk s) (sym (spread-cons (kidsOf up) x xs hi))
-
--- two tests that imply each other are one
-pub same-test : (a b : Bool) → (a ≡ true → b ≡ true) → (b ≡ true → a ≡ true) → a ≡ b
-same-test true b f g = sym (f refl)
-same-test false true f g = g refl
-same-test false false f g = refl
 
 -- ---- the page's own keys
 
@@ -294,10 +269,6 @@ low-of zero lo hi (y ∷ xs) x d s w =
 low-of (suc up) lo hi (y ∷ xs) x d s w =
     let z : eqb (x .live) 0 ≡ false = ne-eqb (x .live) 0 (λ e. omega (arith, d .live)) in
     rw (z, d .first, eqb·suc-zero up) (subst (λ (b : Bool). (b || eqb (y .key) lo) ≡ true) (eqb·suc-zero up) s)
-
-or-true : (b : Bool) → (b || true) ≡ true
-or-true true = refl
-or-true false = refl
 
 starts-of : (up lo : ℕ) (xs : List Pair) (x : Note) → NoteSays xs x → lowFine up lo x ≡ true
     → ((eqb up 0 || startsAt lo xs) ≡ true) × (lo ≤ firstKey xs lo)
@@ -368,12 +339,8 @@ module _ (least : ℕ) (ps : List Page) (v : ℕ) where
   note-four zero b lo hi n =
       page-means zero lo hi (pairsAt v (page ps n)) (noteAt least zero ps v n) true
       (row-starts zero (λ (m : ℕ). nothing) (page ps n .entries) hi ∙ chain-leaf (λ (m : ℕ). nothing) (λ m. refl) (pairsAt v (page ps n)) hi
-      ∙ sym (one (climbs (pairsAt v (page ps n)) hi)))
+      ∙ sym (and-true (climbs (pairsAt v (page ps n)) hi)))
       (λ k. row-says zero (λ (m : ℕ). nothing) (page ps n .entries) k)
-    where
-      one : (b : Bool) → (b && true) ≡ b
-      one true = refl
-      one false = refl
   note-four (suc up) b lo hi n =
       page-means (suc up) lo hi (pairsAt v (page ps n)) (noteAt least (suc up) ps v n) (all keysOk (seenUnder (suc up) ps v hi n))
       (row-starts (suc up) (noteAt least up ps v) (page ps n .entries) hi
@@ -410,7 +377,7 @@ module _ (least : ℕ) (ps : List Page) (v : ℕ) where
       let (ft, l) = both-true (fits (suc up) (x .key) k) (leb (max (x .key + 1) (k .high)) h) fl in
       let (ok, g) = both-true (k .keys) (lowFine up (x .key) k) ft in
       ap (all (enough least)) (spread-cons (seenBelow up ps v false) x xs hi)
-      ∙ all-append (enough least) (seenBelow up ps v false (x .key) h (x .value)) (spread (seenBelow up ps v false) xs hi)
+      ∙ all-both (enough least) (seenBelow up ps v false (x .key) h (x .value)) (spread (seenBelow up ps v false) xs hi)
       ∙ ap₂ _&&_ (kid-full up (x .key) h (x .value) ok (ih (x .value) h ok (omega (arith, leb-true (max (x .key + 1) (k .high)) h l))))
       (row-under up ih xs hi rest)
 

@@ -1,6 +1,6 @@
 -- Laws about notes/specs/Over. Assumes nothing.
 use Prim.Native.Nat.{ℕ, zero, suc, _-_, _≤_, _<_}
-use mathlib.Core.Bool.{Bool, true, false, _&&_}
+use mathlib.Core.Bool.{Bool, true, false, _&&_, and-true}
 use mathlib.Core.Path.{_≡_, refl, ap, ap₂, sym, _∙_}
 use mathlib.Core.List.{List}
 use lib.Dec.{eqb, eqb·suc-zero}
@@ -27,10 +27,6 @@ fewest-root least (suc up) = rw (eqb·suc-zero up)
 and-group : (a b c : Bool) → (a && (b && c)) ≡ (a && b && c)
 and-group true b c = refl
 and-group false b c = refl
-
-and-one : (b : Bool) → (b && true) ≡ b
-and-one true = refl
-and-one false = refl
 
 -- ---- from one change to the next, in a stretch that has one root
 
@@ -65,7 +61,7 @@ module _ (least up : ℕ) (ps : List Page) (root a v c : ℕ) where
       → Over least up ps root a c (record { keys = true; full = f })
   over-whole f l h g = record {
     keys = sym (h ∙ run-ends (keysOn least up ps root) v c l);
-    full = λ w. sym (g ∙ ap (λ (b : Bool). f && b) (run-ends (fullOn least up ps root) v c l) ∙ and-one f);
+    full = λ w. sym (g ∙ ap (λ (b : Bool). f && b) (run-ends (fullOn least up ps root) v c l) ∙ and-true f);
   }
 
 -- ---- from one slot to the next
@@ -101,5 +97,5 @@ module _ (least : ℕ) (s : Store) (old end : ℕ) (all-of : count old (end - ol
     pub told-end : pick f 0 5 ≡ told (rule4 s) (rule5 least s)
     told-end =
         ap₂ told (sym (ap (all (keysAt least s)) (sym all-of) ∙ k ∙ run-ends (keysAt least s) v end done))
-        (sym (ap (all (fullAt least s)) (sym all-of) ∙ g ∙ ap (λ (b : Bool). f && b) (run-ends (fullAt least s) v end done) ∙ and-one f))
+        (sym (ap (all (fullAt least s)) (sym all-of) ∙ g ∙ ap (λ (b : Bool). f && b) (run-ends (fullAt least s) v end done) ∙ and-true f))
         ∙ told-rules least s

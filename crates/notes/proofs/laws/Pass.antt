@@ -1,7 +1,7 @@
 -- Laws about notes/specs/Pass. Assumes nothing.
 use Prim.Native.Nat.{ℕ, zero, suc, _+_, _-_, _<_, _≤_}
 use native.Mathlib.Omega.{arith}
-use mathlib.Core.Bool.{Bool, true, false, _&&_}
+use mathlib.Core.Bool.{Bool, true, false, _&&_, and-true, and-self, and-assoc}
 use mathlib.Core.Path.{_≡_, refl, ap, ap₂, sym, _∙_}
 use mathlib.Core.List.{List}
 use lib.Dec.{leb}
@@ -21,16 +21,12 @@ use Rattle.notes.specs.Pass.{keysOn, fullOn, told}
 
 -- ---- all versions from v on
 
-and-group : (a b c : Bool) → (a && b && c) ≡ (a && (b && c))
-and-group true b c = refl
-and-group false b c = refl
-
 count-split : (f : ℕ → Bool) (v k m : ℕ) → all f (count v (k + m)) ≡ (all f (count v k) && all f (count (v + k) m))
 count-split f v zero m = let a : 0 + m ≡ m = omega arith in let b : v + 0 ≡ v = omega arith in rw (a, b)
 count-split f v (suc k) m =
     let a : suc k + m ≡ suc (k + m) = omega arith in
     let b : v + suc k ≡ suc v + k = omega arith in
-    rw (a, b, count-split f (suc v) k m) (sym (and-group (f v) (all f (count (suc v) k)) (all f (count (suc v + k) m))))
+    rw (a, b, count-split f (suc v) k m) (sym (and-assoc (f v) (all f (count (suc v) k)) (all f (count (suc v + k) m))))
 
 pub count-ext : (f g : ℕ → Bool) (v k : ℕ) → ((x : ℕ) → v ≤ x → x < v + k → f x ≡ g x) → all f (count v k) ≡ all g (count v k)
 count-ext f g v zero e = refl
@@ -51,17 +47,9 @@ run-ends f v end le = let a : end - v ≡ 0 = omega arith in rw a
 
 -- versions that answer alike
 alike : (f : ℕ → Bool) (b : Bool) (v k : ℕ) → ((x : ℕ) → v ≤ x → x < v + suc k → f x ≡ b) → all f (count v (suc k)) ≡ b
-alike f b v zero e = ap (λ (c : Bool). c && true) (e v (omega arith) (omega arith)) ∙ one b
-  where
-    one : (c : Bool) → (c && true) ≡ c
-    one true = refl
-    one false = refl
+alike f b v zero e = ap (λ (c : Bool). c && true) (e v (omega arith) (omega arith)) ∙ and-true b
 alike f b v (suc k) e =
-    ap₂ _&&_ (e v (omega arith) (omega arith)) (alike f b (suc v) k (λ x l h. e x (omega arith) (omega arith))) ∙ twice b
-  where
-    twice : (c : Bool) → (c && c) ≡ c
-    twice true = refl
-    twice false = refl
+    ap₂ _&&_ (e v (omega arith) (omega arith)) (alike f b (suc v) k (λ x l h. e x (omega arith) (omega arith))) ∙ and-self b
 
 pub run-alike : (f : ℕ → Bool) (v q end : ℕ) → v < q → q ≤ end → ((x : ℕ) → v ≤ x → x < q → f x ≡ f v)
     → all f (count v (end - v)) ≡ (f v && all f (count q (end - q)))

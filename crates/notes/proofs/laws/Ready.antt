@@ -16,18 +16,14 @@ use Rattle.model.specs.Sound.{versions}
 use Rattle.model.specs.Store.{lastOf}
 use Rattle.model.specs.Walk.{rootAt, rootFrom}
 use Rattle.model.specs.Layout.{readSlot, readSlots, readHeader, decode}
-use Rattle.model.specs.Inner.{Out}
-use Rattle.model.proofs.lists.Members.{In}
-use Rattle.model.proofs.sound.Quiet.{root-still}
+use Rattle.model.specs.Inner.{Out, In}
+use Rattle.model.proofs.sound.Quiet.{root-still, out-less}
 use Rattle.store.proofs.laws.Read.{slots-step, slots-end, slots-of, oldest-of}
 use Rattle.local.specs.Local.{slotAt}
 use Rattle.local.proofs.laws.First.{last-is}
 use Rattle.notes.specs.Ready.{QuietSlots, Ready}
 
 -- ---- one more slot
-
-out-less : (v r q x : ℕ) → Out v r x → q ≤ r → Out v q x
-out-less v r q x o h = ⊎-elim (λ l. inl l) (λ l. inr (omega arith)) o
 
 pub outs-more : (f : ℕ → ℕ) (i v r q : ℕ) → ((k : ℕ) → k < i → Out v r (f k)) → q ≤ r → Out v q (f i) → (k : ℕ) → k < i + 1 → Out v q (f k)
 outs-more f i v r q h le o k l = ⊎-elim (λ a. out-less v r q (f k) (h k a) le) (λ a. let e : k ≡ i = omega arith in rw e o) (less k i)

@@ -12,25 +12,25 @@ use lib.ListN.{drop, length-drop}
 use lib.Seq.{getD-drop}
 use borrow.Author.Tests.{leb-true, leb-false, le-leb, lt-ltb}
 use Rattle.model.specs.Basic.{all, inOrder}
-use Rattle.model.specs.declared.Slot.{Slot}
 use Rattle.model.specs.Entry.{alive, within}
 use Rattle.model.specs.Page.{Page, free, isFree}
 use Rattle.model.specs.Store.{Store, page, last}
 use Rattle.model.specs.Walk.{Seen, seen}
 use Rattle.model.specs.Sound.{pagesPass, versions, keysOk, fewest, reachedWell, rule1, rule2, rule3, rule4, rule5, rule6}
 use Rattle.spans.specs.Quick.{kept, apart, childrenFine, slotsFine, fineOver, ledTo, spansMet, quick}
-use Rattle.model.specs.Inner.{Out}
+use Rattle.model.specs.Inner.{In}
+use Rattle.model.specs.ByRule.{Readable, numbers, livesAt, enough}
 use Rattle.model.proofs.lists.Lists.{both-true, both-intro}
-use Rattle.model.proofs.lists.Members.{bool-cases, In, all-in, all-by}
-use Rattle.model.proofs.sound.ByRule.{Readable, old-last, Front, front-of, span-of, numbers, livesAt, enough, used-in, high-used}
+use Rattle.model.proofs.lists.Members.{bool-cases, all-in, all-by}
+use Rattle.model.proofs.lists.Bools.{same-test}
+use Rattle.model.proofs.sound.ByRule.{old-last, Front, front-of, used-in, high-used}
 use Rattle.model.proofs.sound.ByRule.{at-reached, version-in, in-version}
-use Rattle.model.proofs.sound.Quiet.{QuietPage, Quiet, seen-still}
+use Rattle.model.proofs.sound.Quiet.{seen-still}
 use Rattle.model.proofs.tree.Bridge.{passesAt}
-use Rattle.spans.proofs.laws.RulesGive.{entry-at, root}
+use Rattle.spans.proofs.laws.RulesGive.{root}
 use Rattle.spans.proofs.laws.AddedUp.{reached-as, met-at}
 use Rattle.spans.proofs.laws.ToWalks.{slot-at}
-use Rattle.spans.proofs.laws.Quick.{quick-rules}
-use Rattle.notes.proofs.laws.Means.{same-test}
+use Rattle.spans.proofs.laws.Quick.{quick-rules, quiet}
 
 module _ (least : ℕ) (two : 2 ≤ least) (s : Store) (r1 : rule1 least s ≡ true) (r2 : rule2 s ≡ true) (r3 : rule3 s ≡ true) where
   abbrev ps : List Page
@@ -41,29 +41,6 @@ module _ (least : ℕ) (two : 2 ≤ least) (s : Store) (r1 : rule1 least s ≡ t
 
   behind : (n : ℕ) → isFree (page ps n) ≡ false → page (drop 5 ps) (n - 5) ≡ page ps n
   behind n u = let five : 5 ≤ n = high-used s n (d .front) u in getD-drop 5 ps (n - 5) free ∙ ap (page ps) (omega arith)
-
-  -- from last on nothing starts or ends
-  quiet-page : (n : ℕ) → (isFree (page ps n) ≡ true) ⊎ (isFree (page ps n) ≡ false) → QuietPage (last s) alive (page ps n)
-  quiet-page n (inl e) =
-      rw (d .zeros n e) (record { start = inl (omega arith); end = inl (omega arith); starts = λ x i. absurd i; ends = λ x i. absurd i })
-  quiet-page n (inr e) =
-      let span = span-of (last s) (page ps n .start) (page ps n .end) (d .pages n e .span) in
-      record {
-        start = inl (span .starts);
-        end = out (page ps n .end) (span .ends);
-        starts = λ x i. inl (entry-at least two s d n e x i .span .starts);
-        ends = λ x i. out (x .end) (entry-at least two s d n e x i .span .ends);
-      }
-    where
-      out : (b : ℕ) → (b ≤ last s) ⊎ (b ≡ alive) → Out (last s) alive b
-      out b (inl l) = inl l
-      out b (inr l) = inr (omega arith)
-
-  quiet : Quiet (last s) alive s
-  quiet = record {
-    slots = λ x i. inl (leb-true (x .version) (last s) (all-in (λ (y : Slot). leb (y .version) (last s)) x (s .slots) (d .upto) i));
-    pages = λ n l. quiet-page n (bool-cases (isFree (page ps n)));
-  }
 
   low-version : (v : ℕ) → In v (versions s) → v < alive
   low-version v i = omega (arith, in-version s v i .upto, d .last-low)
@@ -84,7 +61,7 @@ module _ (least : ℕ) (two : 2 ≤ least) (s : Store) (r1 : rule1 least s ≡ t
         at (inl e) = walks-at v (record { from = from; upto = leb-true v (last s) e })
         at (inr e) =
             subst (λ (xs : List Seen). all (passesAt least) xs ≡ true)
-            (seen-still (last s) v alive (omega (arith, leb-false v (last s) e)) low s quiet)
+            (seen-still (last s) v alive (omega (arith, leb-false v (last s) e)) low s (quiet least two s r1 r2 r3))
             (walks-at (last s) (record { from = old-last least s (d .old-low); upto = omega arith }))
 
     module _ (spans : spansMet s 5 (drop 5 ps) ≡ true) (slots : slotsFine least (s .oldest) ps (s .slots) ≡ true) where

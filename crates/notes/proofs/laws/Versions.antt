@@ -11,8 +11,8 @@ use Rattle.model.specs.Page.{pairsAt}
 use Rattle.model.specs.Store.{Store, page}
 use Rattle.model.specs.Walk.{seen, rootAt, heightOf, keyLimit, seenUnder}
 use Rattle.model.specs.Sound.{keysOk, fewest, versions, rule4, rule5}
+use Rattle.model.specs.ByRule.{enough}
 use Rattle.model.proofs.lists.Lists.{both-true}
-use Rattle.model.proofs.sound.ByRule.{enough}
 use Rattle.notes.specs.declared.Note.{Note}
 use Rattle.notes.specs.Notes.{noteAt, lowFine, keysBy, fullBy}
 use Rattle.notes.proofs.laws.Notes.{rootNote}

@@ -13,15 +13,16 @@ use borrow.Author.Tests.{ne-eqb}
 use Rattle.model.specs.Basic.{keep, those, any, has, pick}
 use Rattle.model.specs.declared.Pair.{Pair}
 use Rattle.model.specs.declared.Entry.{Entry}
-use Rattle.model.specs.Entry.{pair, liveAt, born, before, placed, enter, enterPair, endThose}
+use Rattle.model.specs.Entry.{pair, liveAt, born, placed, enter, enterPair, endThose}
 use Rattle.model.specs.Page.{Page, Change, pairsAt, enterAll, bornAll, wanted, changed}
 use Rattle.model.specs.Store.{page}
 use Rattle.model.specs.Walk.{Around}
 use Rattle.model.specs.Rules
 use Rattle.model.specs.Rules.{Group, lowKey, samePair, exchange, routersTo, roomy}
 use Rattle.model.specs.Needs.{fills, takesInPlace, groupAt, goes}
+use Rattle.model.specs.Inner.{In}
+use Rattle.model.proofs.lists.Lists.{length-enter}
 use Rattle.outlook.specs.Plan.{rootFills}
-use Rattle.model.proofs.lists.Members.{In}
 
 abbrev pub keysOf : List Pair → List ℕ
 keysOf xs = map (λ (x : Pair). x .key) xs
@@ -59,14 +60,6 @@ keys-enterAll : (xs ps : List Pair) → keysOf (enterAll xs ps) ≡ enterKeys (k
 keys-enterAll [] ps = refl
 keys-enterAll (x ∷ xs) ps = keys-enterAll xs (enterPair x ps) ∙ ap (enterKeys (keysOf xs)) (keys-enter x ps)
 
-length-enter : (e : Entry) (es : List Entry) → length (enter e es) ≡ suc (length es)
-length-enter e [] = refl
-length-enter e (x ∷ xs) = at (before e x) (length-enter e xs)
-  where
-    at : (b : Bool) → length (enter e xs) ≡ suc (length xs) → length (placed b e x xs (enter e xs)) ≡ suc (suc (length xs))
-    at true ih = refl
-    at false ih = ap suc ih
-
 length-born : (w : ℕ) (xs : List Pair) (es : List Entry) → length (bornAll w xs es) ≡ length xs + length es
 length-born w [] es = omega arith
 length-born w (x ∷ xs) es = omega (arith, length-born w xs (enter (born w x) es), length-enter (born w x) es)
@@ -75,7 +68,8 @@ module _ {c d : Change} (h : KeysAlike c d) where
   pub wanted-alike : (w : ℕ) (p : Page) → keysOf (wanted w c p) ≡ keysOf (wanted w d p)
   wanted-alike w p =
       let base : List ℕ → List Pair = λ ks. those (λ (x : Pair). not (has (x .key) ks)) (pairsAt w p) in
-      keys-enterAll (c .take) (base (c .drop)) ∙ ap₂ enterKeys (h .takes) (ap (λ (ks : List ℕ). keysOf (base ks)) (h .drops)) ∙ sym (keys-enterAll (d .take) (base (d .drop)))
+      keys-enterAll (c .take) (base (c .drop)) ∙ ap₂ enterKeys (h .takes) (ap (λ (ks : List ℕ). keysOf (base ks)) (h .drops))
+      ∙ sym (keys-enterAll (d .take) (base (d .drop)))
 
   pub count-alike : (w : ℕ) (p : Page) → length (wanted w c p) ≡ length (wanted w d p)
   count-alike w p = same-length (wanted w c p) (wanted w d p) (wanted-alike w p)
@@ -83,7 +77,8 @@ module _ {c d : Change} (h : KeysAlike c d) where
   changed-alike : (w : ℕ) (p : Page) → length (changed w c p .entries) ≡ length (changed w d p .entries)
   changed-alike w p =
       let base : List ℕ → List Entry = λ ks. endThose (λ (e : Entry). liveAt w e && has (e .key) ks) w (p .entries) in
-      length-born w (c .take) (base (c .drop)) ∙ ap₂ _+_ (same-length (c .take) (d .take) (h .takes)) (ap (λ (ks : List ℕ). length (base ks)) (h .drops)) ∙ sym (length-born w (d .take) (base (d .drop)))
+      length-born w (c .take) (base (c .drop)) ∙ ap₂ _+_ (same-length (c .take) (d .take) (h .takes))
+      (ap (λ (ks : List ℕ). length (base ks)) (h .drops)) ∙ sym (length-born w (d .take) (base (d .drop)))
 
   pub roomy-alike : (least w : ℕ) (p : Page) → roomy least w c p ≡ roomy least w d p
   roomy-alike least w p = ap (λ (n : ℕ). leb n (5 * least)) (changed-alike w p)
@@ -121,7 +116,8 @@ module _ (w : ℕ) (ps : List Page) (a : Around) (us vs : List Pair) (e : keysOf
   gather-alike true = near-alike (a .left) (a .right)
   gather-alike false = record { routers = refl; keys = e }
 
-pub group-alike : {c d : Change} → KeysAlike c d → (least w : ℕ) (ps : List Page) (a : Around) → Gathered (groupAt least w ps a c) (groupAt least w ps a d)
+pub group-alike : {c d : Change} → KeysAlike c d → (least w : ℕ) (ps : List Page) (a : Around)
+    → Gathered (groupAt least w ps a c) (groupAt least w ps a d)
 group-alike {c} {d} h least w ps a =
     let p : Page = page ps (a .own .value) in
     subst (λ (n : ℕ). Gathered (groupAt least w ps a c) (Rules.gatherBy (ltb n (2 * least)) w ps a (wanted w d p))) (count-alike h w p)
@@ -148,7 +144,12 @@ abbrev pub Aside : List Pair → ℕ → ℕ → Type 0
 Aside rs n m = (n ≡ m) ⊎ (Outside rs n × Outside rs m)
 
 pub twin-of : (rs : List Pair) (j k n m : ℕ) → j ≡ k → Aside rs n m → Twin rs (pair j n) (pair k m)
-twin-of rs j k n m e a = record { key = e; to = λ r i. ap₂ _&&_ (ap (eqb (r .key)) e) (to r i a); from = λ r i. ap₂ _&&_ (ap (λ (z : ℕ). eqb z (r .key)) e) (from r i a) }
+twin-of rs j k n m e a =
+    record {
+      key = e;
+      to = λ r i. ap₂ _&&_ (ap (eqb (r .key)) e) (to r i a);
+      from = λ r i. ap₂ _&&_ (ap (λ (z : ℕ). eqb z (r .key)) e) (from r i a);
+    }
   where
     to : (r : Pair) → In r rs → Aside rs n m → eqb (r .value) n ≡ eqb (r .value) m
     to r i (inl s) = ap (eqb (r .value)) s
@@ -156,7 +157,8 @@ twin-of rs j k n m e a = record { key = e; to = λ r i. ap₂ _&&_ (ap (eqb (r .
 
     from : (r : Pair) → In r rs → Aside rs n m → eqb n (r .value) ≡ eqb m (r .value)
     from r i (inl s) = ap (λ (z : ℕ). eqb z (r .value)) s
-    from r i (inr (o, q)) = ne-eqb n (r .value) (λ (z : n ≡ r .value). o r i (sym z)) ∙ sym (ne-eqb m (r .value) (λ (z : m ≡ r .value). q r i (sym z)))
+    from r i (inr (o, q)) = ne-eqb n (r .value) (λ (z : n ≡ r .value). o r i (sym z))
+        ∙ sym (ne-eqb m (r .value) (λ (z : m ≡ r .value). q r i (sym z)))
 
 module _ (rs : List Pair) where
   any-to : (r : Pair) → In r rs → (xs ys : List Pair) → Twins rs xs ys → any (samePair r) xs ≡ any (samePair r) ys
@@ -173,21 +175,26 @@ module _ (rs : List Pair) where
   those-same f g [] h = refl
   those-same f g (q ∷ qs) h = ap₂ (λ (b : Bool) (zs : List Pair). keep b q zs) (h q (inl refl)) (those-same f g qs (λ r i. h r (inr i)))
 
-  keep-keys : (b : Bool) (x y : Pair) (xs ys : List Pair) → x .key ≡ y .key → keysOf xs ≡ keysOf ys → keysOf (keep b x xs) ≡ keysOf (keep b y ys)
+  keep-keys : (b : Bool) (x y : Pair) (xs ys : List Pair) → x .key ≡ y .key → keysOf xs ≡ keysOf ys
+      → keysOf (keep b x xs) ≡ keysOf (keep b y ys)
   keep-keys true x y xs ys e h = ap₂ (λ (k : ℕ) (ks : List ℕ). k ∷ ks) e h
   keep-keys false x y xs ys e h = h
 
-  those-keys : (f : Pair → Bool) (xs ys : List Pair) → ((x y : Pair) → Twin rs x y → f x ≡ f y) → Twins rs xs ys → keysOf (those f xs) ≡ keysOf (those f ys)
+  those-keys : (f : Pair → Bool) (xs ys : List Pair) → ((x y : Pair) → Twin rs x y → f x ≡ f y) → Twins rs xs ys
+      → keysOf (those f xs) ≡ keysOf (those f ys)
   those-keys f [] [] h t = refl
   those-keys f [] (y ∷ ys) h t = absurd t
   those-keys f (x ∷ xs) [] h t = absurd t
   those-keys f (x ∷ xs) (y ∷ ys) h t =
-      keep-keys (f x) x y (those f xs) (those f ys) (t .0 .key) (those-keys f xs ys h (t .1)) ∙ ap (λ (b : Bool). keysOf (keep b y (those f ys))) (h x y (t .0))
+      keep-keys (f x) x y (those f xs) (those f ys) (t .0 .key) (those-keys f xs ys h (t .1))
+      ∙ ap (λ (b : Bool). keysOf (keep b y (those f ys))) (h x y (t .0))
 
   pub exchange-alike : (xs ys : List Pair) → Twins rs xs ys → KeysAlike (exchange rs xs) (exchange rs ys)
   unfolding Rules.exchange
   exchange-alike xs ys t = record {
-    drops = ap keysOf (those-same (λ (r : Pair). not (any (samePair r) xs)) (λ (r : Pair). not (any (samePair r) ys)) rs (λ r i. ap not (any-to r i xs ys t)));
+    drops = ap keysOf
+        (those-same (λ (r : Pair). not (any (samePair r) xs)) (λ (r : Pair). not (any (samePair r) ys)) rs
+        (λ r i. ap not (any-to r i xs ys t)));
     takes = those-keys (λ (x : Pair). not (any (samePair x) rs)) xs ys (λ x y s. ap not (any-from x y s rs (λ r i. i))) t;
   }
 
@@ -219,10 +226,12 @@ module _ (least : ℕ) (us vs : List Pair) (e : keysOf us ≡ keysOf vs) where
       low-first (drop ((length us + 1) / 2) us) ∙ ap firstKey (keys-drop ((length us + 1) / 2) us) ∙ ap₂ half e (same-length us vs e)
       ∙ sym (low-first (drop ((length vs + 1) / 2) vs) ∙ ap firstKey (keys-drop ((length vs + 1) / 2) vs))
 
-  pub routers-alike : (rs : List Pair) (n m n′ m′ : ℕ) → Aside rs n n′ → Aside rs m m′ → Twins rs (routersTo rs (Rules.parts least us) n m) (routersTo rs (Rules.parts least vs) n′ m′)
+  pub routers-alike : (rs : List Pair) (n m n′ m′ : ℕ) → Aside rs n n′ → Aside rs m m′
+      → Twins rs (routersTo rs (Rules.parts least us) n m) (routersTo rs (Rules.parts least vs) n′ m′)
   unfolding Rules.parts Rules.partsBy Rules.routersTo
   routers-alike rs n m n′ m′ a b =
-      subst (λ (i : ℕ). Twins rs (routersTo rs (Rules.parts least us) n m) (routersTo rs (Rules.partsBy (leb i (4 * least)) vs) n′ m′)) (same-length us vs e) (at (leb (length us) (4 * least)))
+      subst (λ (i : ℕ). Twins rs (routersTo rs (Rules.parts least us) n m) (routersTo rs (Rules.partsBy (leb i (4 * least)) vs) n′ m′))
+      (same-length us vs e) (at (leb (length us) (4 * least)))
     where
       at : (t : Bool) → Twins rs (routersTo rs (Rules.partsBy t us) n m) (routersTo rs (Rules.partsBy t vs) n′ m′)
       at true = (twin-of rs (lowKey rs) (lowKey rs) n n′ refl a, tt)

@@ -19,8 +19,9 @@ use Rattle.outlook.specs.Plan
 use Rattle.model.specs.Needs.{slotLeft}
 use Rattle.outlook.specs.Plan.{outlook, plan, outlookOf, numberOf, outlookNumber}
 use Rattle.model.specs.Sound.{sound}
+use Rattle.model.specs.ByRule.{Sound}
 use Rattle.model.proofs.lists.Members.{holds-true}
-use Rattle.model.proofs.sound.ByRule.{Sound, from-tests, high-used}
+use Rattle.model.proofs.sound.ByRule.{from-tests, high-used}
 use Rattle.model.proofs.sound.Ready.{level-used, ready}
 use Rattle.model.proofs.older.Undo.{LivePage, Next, WayGood}
 use Rattle.outlook.proofs.laws.PlanAlike.{alike-refl}
@@ -40,8 +41,17 @@ module _ (least : ℕ) (two : 2 ≤ least) (s : Store) (d : Sound least s) where
   way-high : (l r : ℕ) (up : List Around) → WayGood least (s .current) l (s .pages) r up → Highs up × (5 ≤ r)
   way-high l r [] g = (tt, good-high l r g)
   way-high l r (a ∷ up) g =
-      let (h, five) = way-high (suc l) r up (g .1) in
-      ((record { own = good-high l _ (g .0 .own); left = next-high l _ (a .left) (g .0 .left); right = next-high l _ (a .right) (g .0 .right) }, h), five)
+      let (h, five) = way-high (suc l) r up (g .1) in (
+        (
+          record {
+            own = good-high l _ (g .0 .own);
+            left = next-high l _ (a .left) (g .0 .left);
+            right = next-high l _ (a .right) (g .0 .right);
+          },
+          h,
+        ),
+        five,
+      )
 
   -- the number of what comes of the root
   slot-number : (b : Bool) (xs : List Slot) (qs : List Page) → numberOf (Climb.slotted b s xs qs) ≡ pick b 0 13
@@ -52,14 +62,16 @@ module _ (least : ℕ) (two : 2 ≤ least) (s : Store) (d : Sound least s) where
   root-number : (x : Rooted) → numberOf (Climb.rooted least s x) ≡ outlookNumber (slotLeft least s) (outlookOf x)
   unfolding Climb.rooted Plan.outlookNumber
   root-number (stays qs) = refl
-  root-number (moves n qs) = slot-number _ _ qs ∙ ap (λ (b : Bool). pick b 0 13) (slot-left (next s) n (64 * least) (s .slots) (d .slots-few))
+  root-number (moves n qs) =
+      slot-number _ _ qs ∙ ap (λ (b : Bool). pick b 0 13) (slot-left (next s) n (64 * least) (s .slots) (d .slots-few))
   root-number lacks = refl
 
   refused-by : (n : ℕ) (r : Result) → numberOf r ≡ suc n → r ≡ refused (suc n)
   refused-by n (done t) e = absurd (omega arith)
   refused-by n (refused m) e = ap refused e
 
-  done-slot : (b : Bool) (xs : List Slot) (qs : List Page) → numberOf (Climb.slotted b s xs qs) ≡ 0 → (t : Store) × (Climb.slotted b s xs qs ≡ done t)
+  done-slot : (b : Bool) (xs : List Slot) (qs : List Page) → numberOf (Climb.slotted b s xs qs) ≡ 0
+      → (t : Store) × (Climb.slotted b s xs qs ≡ done t)
   unfolding Climb.slotted
   done-slot true xs qs e = (record { current = s .current; opened = s .opened; oldest = s .oldest; slots = xs; pages = qs }, refl)
   done-slot false xs qs e = absurd (omega arith)
@@ -77,7 +89,8 @@ module _ (least : ℕ) (two : 2 ≤ least) (s : Store) (d : Sound least s) where
     outlook-is =
         let q = ready least two s d o k low in
         let (h, five) = way-high 0 (rootAt (s .slots) (next s)) (way s (next s) k) (q .leads) in
-        climb-matches least (s .current) 0 (rootAt (s .slots) (next s)) (way s (next s) k) c c (s .pages) (q .tame) (q .leads) h five (alike-refl c)
+        climb-matches least (s .current) 0 (rootAt (s .slots) (next s)) (way s (next s) k) c c (s .pages) (q .tame) (q .leads) h five
+        (alike-refl c)
 
     -- and the number
     pub plan-is : numberOf (update least s k c) ≡ plan least s k c
@@ -92,6 +105,8 @@ module _ (least : ℕ) (two : 2 ≤ least) (s : Store) (d : Sound least s) where
     unfolding Climb.update
     plan-done e = done-by _ (plan-is ∙ e)
 
--- For every sound store with an update open, every key and every change: the plan, which only reads, gives the number that the update comes to.
-pub plan-foresees : (least : ℕ) → 2 ≤ least → (s : Store) → T (sound least s) → s .opened ≡ true → (k : ℕ) → k < keyLimit → (c : Change) → numberOf (update least s k c) ≡ plan least s k c
+-- For every sound store with an update open, every key and every change: the plan, which only reads, gives the number that the update comes
+-- to.
+pub plan-foresees : (least : ℕ) → 2 ≤ least → (s : Store) → T (sound least s) → s .opened ≡ true → (k : ℕ) → k < keyLimit → (c : Change)
+    → numberOf (update least s k c) ≡ plan least s k c
 plan-foresees least two s sure o k low c = plan-is least two s (from-tests least s (holds-true (sound least s) sure)) o k low c

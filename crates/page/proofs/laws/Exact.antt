@@ -14,7 +14,7 @@ use Rattle.model.specs.Basic.{those}
 use Rattle.model.specs.Limits.{liveBits}
 use Rattle.model.specs.Layout.{lives, liveIn, liveOf, entriesBytes, readEntry, readEntries, unused, padded, headBytes, encodePage}
 use Rattle.model.specs.Layout.{decodePage, countOf}
-use Rattle.model.proofs.needs.Sizes.{few-those}
+use Rattle.model.proofs.lists.Lists.{few-those}
 use Rattle.page.specs.declared.Head.{Head}
 use Rattle.page.proofs.laws.Editions.{count-bits, live-bits, shown-fits, shown-none}
 use Rattle.page.specs.Head.{readHead, headOf, frontBytes, putLive, HeadFits}

@@ -8,7 +8,7 @@ use Rattle.model.specs.declared.Entry.{Entry}
 use Rattle.model.specs.Basic.{those}
 use Rattle.model.specs.Layout.{lives, readEntry, readEntries}
 use Rattle.model.proofs.tree.Local.{those-append}
-use Rattle.model.proofs.needs.Sizes.{few-those}
+use Rattle.model.proofs.lists.Lists.{few-those}
 use Rattle.page.specs.Insert.{liveOne}
 use Rattle.page.proofs.laws.Read.{entries-step, entries-end}
 

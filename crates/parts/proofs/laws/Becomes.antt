@@ -1,17 +1,17 @@
 -- Laws about parts/specs/Becomes. Assumes nothing.
-use Prim.Native.Nat.{ℕ, zero, suc, _+_, _*_, _-_, _≤_}
+use Prim.Native.Nat.{ℕ, zero, suc, _+_, _*_, _-_}
 use mathlib.Core.Path.{_≡_, refl, ap, sym, _∙_}
 use mathlib.Core.List.{List, [], _∷_, _++_}
-use mathlib.Core.Logic.{_⊎_, inl, inr, ⊎-elim, _≢_}
+use mathlib.Core.Logic.{⊎-elim, _≢_}
 use native.Mathlib.Omega.{arith}
 use lib.ListN.{getD, set, take, drop, length-set}
-use lib.Seq.{getD-set-same, getD-set-other}
-use Rattle.bits.proofs.laws.Put.{less}
+use lib.Seq.{getD-set-same, getD-set-other, take-set-le}
 use Rattle.model.specs.declared.Limits.{Limits}
 use Rattle.model.specs.declared.Pair.{Pair}
 use Rattle.model.specs.Page.{Page, free}
 use Rattle.model.specs.Store.{Store, page}
 use Rattle.model.specs.Layout.{withPage, encodePage, decode}
+use Rattle.model.proofs.lists.Bools.{same?}
 use Rattle.page.specs.Exact.{Valid}
 use Rattle.store.proofs.laws.Parts.{part-back}
 use Rattle.store.specs.Pages.{AllValid}
@@ -56,17 +56,6 @@ module _ {l : Limits} {b b′ : List ℕ} {ps : List Page} (k : ExactBytes l b) 
 
 -- ---- one page written
 
-equal : (m n : ℕ) → (m ≡ n) ⊎ (m ≢ n)
-equal m n =
-    ⊎-elim (λ l. inr (λ (e : m ≡ n). omega arith)) (λ g. ⊎-elim (λ l. inr (λ (e : m ≡ n). omega arith)) (λ l. inl (omega arith)) (less n m))
-    (less m n)
-
-take-set : (ps : List Page) (m n : ℕ) (q : Page) → m ≤ n → take m (set ps n q) ≡ take m ps
-take-set ps zero n q h = refl
-take-set [] (suc m) n q h = refl
-take-set (p ∷ ps) (suc m) zero q h = absurd (omega arith)
-take-set (p ∷ ps) (suc m) (suc n) q h = ap (λ (xs : List Page). p ∷ xs) (take-set ps m n q (omega arith))
-
 module _ {l : Limits} {b : List ℕ} (k : ExactBytes l b) {n : ℕ} (i : Inside l b n) (q : Page) (v : Valid (l .least) q) where
   abbrev ps : List Page
   ps = pagesOf l b
@@ -76,7 +65,7 @@ module _ {l : Limits} {b : List ℕ} (k : ExactBytes l b) {n : ℕ} (i : Inside 
 
   all-valid : AllValid (l .least) (set (pagesOf l b) n q)
   all-valid m =
-      ⊎-elim (λ (e : m ≡ n). rw (hit m e) v) (λ (ne : m ≢ n). rw (getD-set-other ps n m q free ne) (k .holds .pages m)) (equal m n)
+      ⊎-elim (λ (e : m ≡ n). rw (hit m e) v) (λ (ne : m ≢ n). rw (getD-set-other ps n m q free ne) (k .holds .pages m)) (same? m n)
 
   pub put : Becomes l b (withPage (l .least) b n (encodePage (l .least) q)) (set (pagesOf l b) n q)
   put = record {
@@ -85,7 +74,7 @@ module _ {l : Limits} {b : List ℕ} (k : ExactBytes l b) {n : ℕ} (i : Inside 
     holds = record {
       five = omega (arith, length-set ps n q, k .holds .five);
       most = omega (arith, length-set ps n q, k .holds .most);
-      front = take-set ps 5 n q (i .low) ∙ k .holds .front;
+      front = take-set-le 5 ps n q (i .low) ∙ k .holds .front;
       current = k .holds .current;
       oldest = k .holds .oldest;
       few = k .holds .few;

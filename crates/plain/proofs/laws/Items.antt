@@ -30,10 +30,12 @@ from-end ns i n h = let e : n - i ≡ 0 = omega arith in rw e refl
 -- an item that says the value
 module _ (k v : ℕ) (ns : List ℕ) (i n : ℕ) (h : i < n) where
   pub value-here : (eqb (item ns i .key) k && liveAt v (item ns i)) ≡ true → valueAt k v (from ns i n) ≡ some (item ns i .value)
-  value-here e = ap (valueAt k v) (from-step ns i n h) ∙ ap (λ (b : Bool). pick b (some (item ns i .value)) (valueAt k v (from ns (i + 1) n))) e
+  value-here e =
+      ap (valueAt k v) (from-step ns i n h) ∙ ap (λ (b : Bool). pick b (some (item ns i .value)) (valueAt k v (from ns (i + 1) n))) e
 
   pub value-on : (eqb (item ns i .key) k && liveAt v (item ns i)) ≡ false → valueAt k v (from ns i n) ≡ valueAt k v (from ns (i + 1) n)
-  value-on e = ap (valueAt k v) (from-step ns i n h) ∙ ap (λ (b : Bool). pick b (some (item ns i .value)) (valueAt k v (from ns (i + 1) n))) e
+  value-on e =
+      ap (valueAt k v) (from-step ns i n h) ∙ ap (λ (b : Bool). pick b (some (item ns i .value)) (valueAt k v (from ns (i + 1) n))) e
 
 -- ---- what is found
 

@@ -18,6 +18,7 @@ use Rattle.model.specs.Calls.{rule, firstOf, pairNumbers, rangedIn, rangedBy}
 use Rattle.model.specs.Told.{toldIn, toldBy}
 use Rattle.model.specs.Differ.{deltaNumbers, saysOf}
 use Rattle.model.specs.Lent.{Listed, listed}
+use Rattle.model.proofs.lists.Members.{neither}
 use Rattle.plain.specs.declared.items.Found.{Found}
 use Rattle.plain.specs.Plain.{Plain, unreadable, valueAt, setting, settings, keys, differs, range, difference}
 use Rattle.plain.specs.Items.{foundOf}
@@ -44,7 +45,8 @@ showing v es k = setting k (valueAt k v es)
 pub showing-skip : (a r hi v : ℕ) (es : List Entry) → SkipsKeys a r v v es → told (showing v es) a (suc hi) ≡ told (showing v es) r (suc hi)
 showing-skip a r hi v es s = told-skip (showing v es) a r (suc hi) (s .behind) (λ k x y. ap (setting k) (s .old k x y))
 
-pub showing-step : (k hi v : ℕ) (es : List Entry) → k ≤ hi → (a : Found) → a ≡ foundOf (valueAt k v es) → told (showing v es) k (suc hi) ≡ settingBy k a ++ told (showing v es) (k + 1) (suc hi)
+pub showing-step : (k hi v : ℕ) (es : List Entry) → k ≤ hi → (a : Found) → a ≡ foundOf (valueAt k v es)
+    → told (showing v es) k (suc hi) ≡ settingBy k a ++ told (showing v es) (k + 1) (suc hi)
 showing-step k hi v es h a e =
     told-step (showing v es) k (suc hi) (omega arith)
     ∙ ap (λ (us : List Pair). us ++ told (showing v es) (k + 1) (suc hi)) (sym (ap (settingBy k) e ∙ setting-found k (valueAt k v es)))
@@ -56,7 +58,8 @@ pub saying-step : (k u v : ℕ) (es : List Entry) → k < keyLimit → (a b : Fo
     → told (saying u v es) k keys ≡ deltaBy k a b ++ told (saying u v es) (k + 1) keys
 saying-step k u v es h a b e f =
     told-step (saying u v es) k keys (omega (arith, h, keys-limit))
-    ∙ ap (λ (ds : List Delta). ds ++ told (saying u v es) (k + 1) keys) (sym (ap₂ (deltaBy k) e f ∙ delta-found k (valueAt k u es) (valueAt k v es)))
+    ∙ ap (λ (ds : List Delta). ds ++ told (saying u v es) (k + 1) keys)
+    (sym (ap₂ (deltaBy k) e f ∙ delta-found k (valueAt k u es) (valueAt k v es)))
 
 -- at most one for each key
 few : {A : Type 0} (f : ℕ → List A) → ((k : ℕ) → length (f k) ≤ 1) → (n a : ℕ) → length (flatMap f (count a n)) ≤ n
@@ -94,11 +97,14 @@ ranged-told zero room us = at (firstOf (rule 14 (ltb room (2 * length us)) ∷ [
     at (suc m) = refl
 ranged-told (suc n) room us = refl
 
-delta-one : (k : ℕ) (a b : Found) → sameFound a b ≡ false → deltaBy k a b ≡ record { key = k; kind = kindBy a b; old = a .value; new = b .value } ∷ []
+delta-one : (k : ℕ) (a b : Found) → sameFound a b ≡ false
+    → deltaBy k a b ≡ record { key = k; kind = kindBy a b; old = a .value; new = b .value } ∷ []
 delta-one k a b h = ap (λ (c : Bool). pick c [] (record { key = k; kind = kindBy a b; old = a .value; new = b .value } ∷ [])) h
 
-pub delta-told : (k : ℕ) (a b : Found) → sameFound a b ≡ false → (n : ℕ) → n ≡ kindBy a b → deltaBy k a b ≡ record { key = k; kind = n; old = a .value; new = b .value } ∷ []
-delta-told k a b h n e = delta-one k a b h ∙ ap {B = List Delta} (λ (m : ℕ). record { key = k; kind = m; old = a .value; new = b .value } ∷ []) (sym e)
+pub delta-told : (k : ℕ) (a b : Found) → sameFound a b ≡ false → (n : ℕ) → n ≡ kindBy a b
+    → deltaBy k a b ≡ record { key = k; kind = n; old = a .value; new = b .value } ∷ []
+delta-told k a b h n e =
+    delta-one k a b h ∙ ap {B = List Delta} (λ (m : ℕ). record { key = k; kind = m; old = a .value; new = b .value } ∷ []) (sym e)
 
 pub delta-none : (k : ℕ) (a b : Found) → sameFound a b ≡ true → deltaBy k a b ≡ []
 delta-none k a b h = ap (λ (c : Bool). pick c [] (record { key = k; kind = kindBy a b; old = a .value; new = b .value } ∷ [])) h
@@ -123,10 +129,12 @@ module _ (p : Plain) (lo hi v : ℕ) (ns : List ℕ) where
   unfolding range rangedBy
   range-six h i = ap₂ (λ (b c : Bool). ranging (firstOf (rule 5 b ∷ rule 6 c ∷ []))) (sym h) (sym i)
 
-  pub range-done : badRange lo hi ≡ false → unreadable p v ≡ false → listed ns (toldBy pairNumbers 2 0 (length ns) (settings lo hi v (p .items))) ≡ listed ns (range p lo hi v (length ns))
+  pub range-done : badRange lo hi ≡ false → unreadable p v ≡ false
+      → listed ns (toldBy pairNumbers 2 0 (length ns) (settings lo hi v (p .items))) ≡ listed ns (range p lo hi v (length ns))
   unfolding range
   range-done h i =
-      sym (ap (listed ns) (ranged-told 0 (length ns) (settings lo hi v (p .items)))) ∙ ap₂ (λ (b c : Bool). ranging (firstOf (rule 5 b ∷ rule 6 c ∷ []))) (sym h) (sym i)
+      sym (ap (listed ns) (ranged-told 0 (length ns) (settings lo hi v (p .items))))
+      ∙ ap₂ (λ (b c : Bool). ranging (firstOf (rule 5 b ∷ rule 6 c ∷ []))) (sym h) (sym i)
 
 module _ (p : Plain) (u v : ℕ) (ns : List ℕ) where
   abbrev differing : ℕ → Listed
@@ -144,12 +152,8 @@ module _ (p : Plain) (u v : ℕ) (ns : List ℕ) where
   unfolding difference
   difference-done h i = ap₂ (λ (b c : Bool). differing (firstOf (rule 6 (b || c) ∷ []))) (sym h) (sym i)
 
-either-fails : (b c : Bool) → (b || c) ≡ false → (b ≡ false) × (c ≡ false)
-either-fails true c e = absurd (let z : _≡_ {A = ℕ} 0 1 = cc in omega arith)
-either-fails false c e = (refl, e)
-
 pub range-fits : (lo hi : ℕ) → badRange lo hi ≡ false → (hi < keyLimit) × (lo ≤ hi)
 range-fits lo hi h =
-    let f = either-fails (leb keyLimit lo || leb keyLimit hi) (ltb hi lo) h in
-    let g = either-fails (leb keyLimit lo) (leb keyLimit hi) (f .0) in
+    let f = neither (leb keyLimit lo || leb keyLimit hi) (ltb hi lo) h in
+    let g = neither (leb keyLimit lo) (leb keyLimit hi) (f .0) in
     (leb-false keyLimit hi (g .1), ltb-false hi lo (f .1))

@@ -29,7 +29,8 @@ use Rattle.plain.specs.Turns.{Turned}
 
 -- ---- one key
 
-module _ (ns : List ℕ) (n w v k : ℕ) (l : Lent n ns) (a b : Found) (p : a ≡ foundOf (valueAt k w (from ns 0 n))) (q : b ≡ foundOf (valueAt k v (from ns 0 n))) where
+module _ (ns : List ℕ) (n w v k : ℕ) (l : Lent n ns) (a b : Found) (p : a ≡ foundOf (valueAt k w (from ns 0 n)))
+    (q : b ≡ foundOf (valueAt k v (from ns 0 n))) where
   abbrev es : List Entry
   es = from ns 0 n
 
@@ -39,22 +40,37 @@ module _ (ns : List ℕ) (n w v k : ℕ) (l : Lent n ns) (a b : Found) (p : a �
   pub other-same : sameFound a b ≡ true → Turned (endOther w v k) ns n ns n
   other-same h = record { items = sym (ap (λ (c : Bool). pick c es (endKey w k es)) (sym found-same ∙ h)); lent = l; same = refl }
 
-  pub other-ended : sameFound a b ≡ false → (ns′ : List ℕ) (r : ℕ) → length ns′ ≡ length ns → Gathers kept true ns ns′ 0 r (swept (fate w false k) es) → Turned (endOther w v k) ns n ns′ r
+  pub other-ended : sameFound a b ≡ false → (ns′ : List ℕ) (r : ℕ) → length ns′ ≡ length ns
+      → Gathers kept true ns ns′ 0 r (swept (fate w false k) es) → Turned (endOther w v k) ns n ns′ r
   other-ended h ns′ r same g = record {
-    items = swept-read (fate w false k) n ns ns′ r l g ∙ swept-ended w k es ∙ sym (ap (λ (c : Bool). pick c es (endKey w k es)) (sym found-same ∙ h));
-    lent = record { room = omega (arith, same, l .room, g .count, swept-few (fate w false k) es, from-length ns n); short = omega (arith, same, l .short) };
+    items = swept-read (fate w false k) n ns ns′ r l g ∙ swept-ended w k es
+        ∙ sym (ap (λ (c : Bool). pick c es (endKey w k es)) (sym found-same ∙ h));
+    lent = record {
+      room = omega (arith, same, l .room, g .count, swept-few (fate w false k) es, from-length ns n);
+      short = omega (arith, same, l .short);
+    };
     same = same;
   }
 
   pub missing-not : a .is ≡ true → Turned (setMissing w v k) ns n ns n
-  missing-not h = record { items = sym (ap (λ (o : Option ℕ). setAs w k o (valueAt k v es) es) (found-some (valueAt k w es) a p h)); lent = l; same = refl }
+  missing-not h =
+      record {
+        items = sym (ap (λ (o : Option ℕ). setAs w k o (valueAt k v es) es) (found-some (valueAt k w es) a p h));
+        lent = l;
+        same = refl;
+      }
 
   module _ (h : a .is ≡ false) where
     at-none : valueAt k w es ≡ none
     at-none = found-none (valueAt k w es) a p h
 
     pub missing-none : b .is ≡ false → Turned (setMissing w v k) ns n ns n
-    missing-none i = record { items = sym (ap₂ (λ (o x : Option ℕ). setAs w k o x es) at-none (found-none (valueAt k v es) b q i)); lent = l; same = refl }
+    missing-none i =
+        record {
+          items = sym (ap₂ (λ (o x : Option ℕ). setAs w k o x es) at-none (found-none (valueAt k v es) b q i));
+          lent = l;
+          same = refl;
+        }
 
     is-set : b .is ≡ true → setMissing w v k es ≡ setKey w k (b .value) es
     is-set i = ap₂ (λ (o x : Option ℕ). setAs w k o x es) at-none (found-some (valueAt k v es) b q i)
@@ -65,7 +81,8 @@ module _ (ns : List ℕ) (n w v k : ℕ) (l : Lent n ns) (a b : Found) (p : a �
         let one = length-append es (born w (pair k (b .value)) ∷ []) in
         omega (arith, e, one, from-length ns n, r)
 
-    pub missing-set : b .is ≡ true → 4 * n + 4 ≤ length ns → Turned (setMissing w v k) ns n (laid ns n (record { key = k; start = w; end = alive; value = b .value })) (n + 1)
+    pub missing-set : b .is ≡ true → 4 * n + 4 ≤ length ns
+        → Turned (setMissing w v k) ns n (laid ns n (record { key = k; start = w; end = alive; value = b .value })) (n + 1)
     missing-set i r =
         let e : Entry = record { key = k; start = w; end = alive; value = b .value } in
         record {
@@ -120,19 +137,23 @@ pub record Turning (f : ℕ → List Entry → List Entry) (ns : List ℕ) (n : 
   pub lent : Lent m ns′
   pub same : length ns′ ≡ length ns
 
-module _ (f : ℕ → List Entry → List Entry) (w v : ℕ) (silent : (k : ℕ) (es : List Entry) → valueAt k w es ≡ none → valueAt k v es ≡ none → f k es ≡ es) (ns : List ℕ) (n : ℕ) where
+module _ (f : ℕ → List Entry → List Entry) (w v : ℕ)
+    (silent : (k : ℕ) (es : List Entry) → valueAt k w es ≡ none → valueAt k v es ≡ none → f k es ≡ es) (ns : List ℕ) (n : ℕ) where
   pub turning-start : Lent n ns → (k : ℕ) → SkipsKeys 0 k w v (from ns 0 n) → Turning f ns n ns n k
   turning-start l k s = record {
     within = s .within;
-    whole = turn-start f (from ns 0 n) ∙ turn-skip f (from ns 0 n) 0 k (s .behind) (s .within) (λ j x y. silent j (from ns 0 n) (s .old j x y) (s .new j x y));
+    whole = turn-start f (from ns 0 n) ∙ turn-skip f (from ns 0 n) 0 k (s .behind) (s .within)
+        (λ j x y. silent j (from ns 0 n) (s .old j x y) (s .new j x y));
     lent = l;
     same = refl;
   }
 
-  pub turning-on : (ns′ : List ℕ) (m k : ℕ) → k < keyLimit → Turning f ns n ns′ m k → (ns″ : List ℕ) (r : ℕ) → Turned (f k) ns′ m ns″ r → (j : ℕ) → SkipsKeys (k + 1) j w v (from ns″ 0 r) → Turning f ns n ns″ r j
+  pub turning-on : (ns′ : List ℕ) (m k : ℕ) → k < keyLimit → Turning f ns n ns′ m k → (ns″ : List ℕ) (r : ℕ) → Turned (f k) ns′ m ns″ r
+      → (j : ℕ) → SkipsKeys (k + 1) j w v (from ns″ 0 r) → Turning f ns n ns″ r j
   turning-on ns′ m k h t ns″ r u j s = record {
     within = s .within;
-    whole = t .whole ∙ turn-step f k (from ns′ 0 m) h ∙ ap (turning f (k + 1)) (sym (u .items)) ∙ turn-skip f (from ns″ 0 r) (k + 1) j (s .behind) (s .within) (λ i x y. silent i (from ns″ 0 r) (s .old i x y) (s .new i x y));
+    whole = t .whole ∙ turn-step f k (from ns′ 0 m) h ∙ ap (turning f (k + 1)) (sym (u .items))
+        ∙ turn-skip f (from ns″ 0 r) (k + 1) j (s .behind) (s .within) (λ i x y. silent i (from ns″ 0 r) (s .old i x y) (s .new i x y));
     lent = u .lent;
     same = u .same ∙ t .same;
   }
@@ -155,7 +176,8 @@ turn-more w v (k ∷ ks) es = omega (arith, missing-more w v k es, turn-more w v
 
 -- so the room for all is room for the next
 pub turning-room : (w v : ℕ) (ns : List ℕ) (n : ℕ) → 4 * length (inTurn (setMissing w v) (count 0 keys) (from ns 0 n)) ≤ length ns
-    → (ns′ : List ℕ) (m k : ℕ) → k < keyLimit → Turning (setMissing w v) ns n ns′ m k → 4 * length (setMissing w v k (from ns′ 0 m)) ≤ length ns′
+    → (ns′ : List ℕ) (m k : ℕ) → k < keyLimit → Turning (setMissing w v) ns n ns′ m k
+    → 4 * length (setMissing w v k (from ns′ 0 m)) ≤ length ns′
 turning-room w v ns n r ns′ m k h t =
     let e = ap (λ (xs : List Entry). length xs) (t .whole ∙ turn-step (setMissing w v) k (from ns′ 0 m) h) in
     let more = turn-more w v (count (k + 1) (keys - (k + 1))) (setMissing w v k (from ns′ 0 m)) in
@@ -163,7 +185,8 @@ turning-room w v ns n r ns′ m k h t =
 
 -- ---- a return on a lent list; w is the open version as the code has it
 
-module _ (s : State) (ns : List ℕ) (v w : ℕ) (is : w ≡ suc (s .current)) (h : beyond (s .current) (s .oldest) v ≡ false) (o : s .opened ≡ true) where
+module _ (s : State) (ns : List ℕ) (v w : ℕ) (is : w ≡ suc (s .current)) (h : beyond (s .current) (s .oldest) v ≡ false)
+    (o : s .opened ≡ true) where
   back-done : given s (s .opened) (backTo (suc (s .current)) v (from ns 0 (s .count))) ≡ return (plainOf s ns) v
   back-done = return-done (plainOf s ns) v h o
 
@@ -177,5 +200,6 @@ module _ (s : State) (ns : List ℕ) (v w : ℕ) (is : w ≡ suc (s .current)) (
         let f = ap (λ (xs : List Entry). length xs) back-is in
         omega (arith, r, e, f, t .same)
 
-    pub return-left : (ns2 : List ℕ) (m : ℕ) → Turned (inTurn (setMissing w v) (count 0 keys)) ns1 n ns2 m → given s (s .opened) (from ns2 0 m) ≡ return (plainOf s ns) v
+    pub return-left : (ns2 : List ℕ) (m : ℕ) → Turned (inTurn (setMissing w v) (count 0 keys)) ns1 n ns2 m
+        → given s (s .opened) (from ns2 0 m) ≡ return (plainOf s ns) v
     return-left ns2 m u = ap (given s (s .opened)) (u .items ∙ back-is) ∙ back-done

@@ -13,18 +13,23 @@ refused-requires : tie.Need-refused-requires
 refused-requires c κs = search needs
 
 returns : tie.Need-returns
-returns c ns = let s = c .before .before .args .s in ap (λ (r : Left). givenBy r ns) (c .refused .ensures) ∙ open-eight (plainOf s ns) (c .before .if1 .taken)
+returns c ns =
+    let s = c .before .before .args .s in ap (λ (r : Left). givenBy r ns) (c .refused .ensures)
+    ∙ open-eight (plainOf s ns) (c .before .if1 .taken)
 
 refused-requires-2 : tie.Need-refused-requires-2
 refused-requires-2 c κs = search needs
 
 returns-2 : tie.Need-returns-2
 returns-2 c ns =
-    let s = c .before .before .before .before .args .s in
-    ap (λ (r : Left). givenBy r ns) (c .refused2 .ensures) ∙ open-nine (plainOf s ns) (c .before .before .before .if1 .left) (c .before .if2 .taken)
+    let at-start = c .before .before .before .before in
+    let s = at-start .args .s in
+    ap (λ (r : Left). givenBy r ns) (c .refused2 .ensures)
+    ∙ open-nine (plainOf s ns) (c .before .before .before .if1 .left) (c .before .if2 .taken)
 
 returns-3 : tie.Need-returns-3
-returns-3 c ns = let s = c .before .before .before .args .s in open-done (plainOf s ns) (c .before .before .if1 .left) (omega (arith, c .if2 .left))
+returns-3 c ns =
+    let s = c .before .before .before .args .s in open-done (plainOf s ns) (c .before .before .if1 .left) (omega (arith, c .if2 .left))
 
 pub open-spec : {M : Type 1} → statement M
 open-spec = tie.close (tie.spec refused-requires returns refused-requires-2 returns-2 returns-3)

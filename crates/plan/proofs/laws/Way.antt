@@ -14,7 +14,7 @@ use lib.Seq.{drop-cons, getD-set-same, getD-set-other}
 use borrow.Author.Tests.{le-leb, lt-leb, le-ltb, leb-false}
 use Rattle.model.specs.declared.Pair.{Pair}
 use Rattle.model.specs.Walk as walk
-use Rattle.model.proofs.lists.Members.{In, in-getD}
+use Rattle.model.proofs.lists.Members.{in-getD}
 use Rattle.edit.specs.Fill.{nil, Fitting}
 use Rattle.gather.specs.declared.Gather.{Gather}
 use Rattle.gather.specs.Gather.{Good, pairsIn}
@@ -24,6 +24,7 @@ use Rattle.model.specs.Page.{Page, isFree, pairsAt}
 use Rattle.model.specs.Store.{page}
 use Rattle.model.specs.Layout.{decode}
 use Rattle.model.specs.Near.{startsBy}
+use Rattle.model.specs.Inner.{In}
 use Rattle.walk.specs.Covers.{Covers}
 use Rattle.walk.proofs.laws.Covers.{covers-starts, covers-own, covers-later, covers-root}
 use Rattle.walk.specs.Sure.{Walkable}

@@ -1,15 +1,14 @@
 -- A prune's bytes as a whole: pages pruned, slots moved to the front, and the header. Assumes nothing.
-use Prim.Native.Nat.{ℕ, zero, suc, _+_, _*_, _-_, _^_, _≤_, _<_}
+use Prim.Native.Nat.{ℕ, _+_, _*_, _-_, _^_, _≤_, _<_}
 use native.Mathlib.Omega.{arith}
 use native.Mathlib.Nat.{mul-le-mul-right}
 use mathlib.Core.Bool.{true}
-use mathlib.Core.Logic.{_⊎_, inl, inr, ⊎-elim, _≢_}
-use mathlib.Core.Path.{_≡_, refl, ap, sym, _∙_, subst}
-use mathlib.Core.List.{List, [], _∷_, map}
-use lib.ListN.{length, getD, set, take, drop, length-map, length-set, length-drop, List·getD-map}
+use mathlib.Core.Logic.{⊎-elim, _≢_}
+use mathlib.Core.Path.{_≡_, ap, sym, _∙_, subst}
+use mathlib.Core.List.{List, map}
+use lib.ListN.{length, getD, set, drop, length-map, length-set, length-drop, List·getD-map}
 use lib.Seq.{getD-set-same, getD-set-other}
 use borrow.Author.Tests.{lt-leb}
-use Rattle.bits.proofs.laws.Put.{less}
 use Rattle.model.specs.declared.Slot.{Slot}
 use Rattle.model.specs.declared.Header.{Header}
 use Rattle.model.specs.declared.Limits.{Limits}
@@ -20,8 +19,10 @@ use Rattle.model.specs.Field.{lay}
 use Rattle.model.specs.Header.{withRoots, withOldest}
 use Rattle.model.specs.Layout.{noSlot, headerOf, readHeader, readSlot, encode, decode}
 use Rattle.model.specs.Judged.{isSound}
-use Rattle.model.specs.Sound.{firstVersion}
 use Rattle.model.specs.Calls.{prunedPage, needed, pruned}
+use Rattle.model.proofs.lists.Bools.{same?}
+use Rattle.model.proofs.lists.Lists.{take-map}
+use Rattle.model.proofs.sound.ByRule.{some-slot}
 use Rattle.page.specs.Exact.{Valid}
 use Rattle.store.specs.Slots.{SlotFits, slotParts}
 use Rattle.store.proofs.laws.Slots.{directory}
@@ -99,15 +100,12 @@ pub record Shifted (least : ℕ) (s : Store) (k i : ℕ) (b : List ℕ) : Type 0
   pub bytes : b ≡ encode least (withSlots s (stage k i (s .slots)))
   pub holds : Holds least (withSlots s (stage k i (s .slots)))
 
-equal : (m n : ℕ) → (m ≡ n) ⊎ (m ≢ n)
-equal m n = ⊎-elim (λ l. inr (λ e. omega arith)) (λ g. ⊎-elim (λ l. inr (λ e. omega arith)) (λ l. inl (omega arith)) (less n m)) (less m n)
-
 set-fits : (xs : List Slot) (i : ℕ) (x : Slot) → i < length xs → SlotFits x → ((j : ℕ) → SlotFits (getD xs j noSlot)) → (j : ℕ)
     → SlotFits (getD (set xs i x) j noSlot)
 set-fits xs i x low f h j =
     ⊎-elim
     (λ (e : j ≡ i). rw e (subst SlotFits (sym (getD-set-same xs i x noSlot low)) f))
-    (λ (ne : j ≢ i). subst SlotFits (sym (getD-set-other xs i j x noSlot ne)) (h j)) (equal j i)
+    (λ (ne : j ≢ i). subst SlotFits (sym (getD-set-other xs i j x noSlot ne)) (h j)) (same? j i)
 
 module _ (least : ℕ) (four : 4 ≤ least) (eight : least ≤ 8) (s : Store) (k : ℕ) (low : k ≤ length (s .slots)) where
   pub shifted-start : (b : List ℕ) → b ≡ encode least s → Holds least s → Shifted least s k 0 b
@@ -152,11 +150,6 @@ module _ (least : ℕ) (four : 4 ≤ least) (eight : least ≤ 8) (s : Store) (k
 
 -- ---- the whole
 
-take-map : {A B : Type 0} (f : A → B) (n : ℕ) (xs : List A) → take n (map f xs) ≡ map f (take n xs)
-take-map f zero xs = refl
-take-map f (suc n) [] = refl
-take-map f (suc n) (x ∷ xs) = ap (λ (ys : List _). f x ∷ ys) (take-map f n xs)
-
 -- a store whose pages are pruned can be held
 pub pages-hold : (least v : ℕ) (s : Store) → Holds least s → Holds least (withPages s (map (prunedPage v) (s .pages)))
 pages-hold least v s h = record {
@@ -171,10 +164,6 @@ pages-hold least v s h = record {
       (sym (List·getD-map (prunedPage v) (s .pages) k free) ∙ ap (λ (x : Page). getD (map (prunedPage v) (s .pages)) k x) (free-pruned v))
       (valid-pruned least v _ (h .pages k));
 }
-
-some-slot : (old : ℕ) (xs : List Slot) → firstVersion old xs ≤ old → 0 < length xs
-some-slot old [] e = absurd (omega arith)
-some-slot old (x ∷ xs) e = omega arith
 
 -- the version fits, and there is a slot
 pub oldest-fits : (least v : ℕ) → 4 < least → v < 2 ^ 20 → v < 2 ^ oldestBits least

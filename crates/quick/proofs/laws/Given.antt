@@ -5,12 +5,12 @@ use mathlib.Core.Path.{_≡_, ap}
 use mathlib.Core.List.{List}
 use mathlib.Core.Logic.{⊎-elim}
 use native.Mathlib.Omega.{arith}
-use Rattle.bits.proofs.laws.Put.{same?}
 use Rattle.model.specs.Basic.{inOrder}
 use Rattle.model.specs.Entry.{before}
 use Rattle.model.specs.Sound.{rule3}
 use Rattle.model.specs.Layout.{decode, pageOf, readEntries}
 use Rattle.model.specs.Clean.{clean}
+use Rattle.model.proofs.lists.Bools.{same?}
 use Rattle.local.specs.Local.{Sized, Ruled, levelAt, countAt}
 use Rattle.local.proofs.laws.Ruled.{ruled, order}
 use Rattle.local.proofs.laws.Linked.{child-lower}

@@ -1,6 +1,6 @@
 -- Laws about quick/specs/Noted. Assumes nothing.
 use Prim.Native.Nat.{ℕ}
-use mathlib.Core.Bool.{Bool, true, false, _&&_}
+use mathlib.Core.Bool.{Bool, true, false, _&&_, and-false}
 use mathlib.Core.Path.{_≡_, refl, ap, sym, _∙_}
 use lib.Dec.{eqb}
 use lib.ListN.{drop}
@@ -36,8 +36,4 @@ module _ (least : ℕ) (s : Store) (h : ThreeRules least s) where
   pub not-reached : rule6 s ≡ false → false ≡ quick least s
   not-reached e =
       sym (quick-rules least (h .two) s (h .first) (h .second) (h .third) ∙ ap (λ (b : Bool). rule4 s && rule5 least s && b) e
-      ∙ at (rule4 s && rule5 least s))
-    where
-      at : (b : Bool) → (b && false) ≡ false
-      at true = refl
-      at false = refl
+      ∙ and-false (rule4 s && rule5 least s))

@@ -1,33 +1,24 @@
 -- Entries stand by key: the first key is the least, the last one the greatest. Assumes nothing.
 use Prim.Native.Nat.{ℕ, zero, suc, _+_, _*_, _-_, _<_, _≤_}
-use mathlib.Core.Bool.{Bool, true, false, _&&_, _||_, not}
+use mathlib.Core.Bool.{Bool, true, _||_, not, or-true}
 use mathlib.Core.Path.{_≡_, refl, ap, sym, _∙_}
 use mathlib.Core.List.{List, _∷_}
-use mathlib.Core.Logic.{_⊎_, inl, inr}
+use mathlib.Core.Logic.{inl, inr}
 use native.Mathlib.Omega.{arith}
 use native.Mathlib.Nat.{sub-zero}
-use lib.Dec.{leb, ltb, eqb}
-use borrow.Author.Tests.{le-leb, lt-ltb, ltb-true, eqb-true}
+use lib.Dec.{leb, ltb}
+use borrow.Author.Tests.{le-leb, lt-ltb}
 use Rattle.model.specs.declared.Entry.{Entry}
 use Rattle.model.specs.Basic.{all, inOrder}
 use Rattle.model.specs.Entry.{before}
 use Rattle.model.specs.Layout.{readEntry, readEntries}
+use Rattle.model.specs.Inner.{In}
 use Rattle.spans.specs.Quick.{meets, lowOver}
+use Rattle.spans.proofs.laws.Neighbours.{before-key}
 use Rattle.model.proofs.lists.Lists.{both-true, both-intro}
-use Rattle.model.proofs.lists.Members.{In, either-true, all-in, all-by}
+use Rattle.model.proofs.lists.Members.{all-in, all-by}
 use Rattle.page.proofs.laws.Read.{entries-step}
 use Rattle.quick.specs.Part.{highOver}
-
-before-key : (e f : Entry) → before e f ≡ true → e .key ≤ f .key
-before-key e f h = at (either-true (ltb (e .key) (f .key)) (eqb (e .key) (f .key) && ltb (e .start) (f .start)) h)
-  where
-    at : (ltb (e .key) (f .key) ≡ true) ⊎ ((eqb (e .key) (f .key) && ltb (e .start) (f .start)) ≡ true) → e .key ≤ f .key
-    at (inl q) = omega (arith, ltb-true (e .key) (f .key) q)
-    at (inr q) = omega (arith, eqb-true (e .key) (f .key) (both-true (eqb (e .key) (f .key)) (ltb (e .start) (f .start)) q .0))
-
-or-true : (b : Bool) → (b || true) ≡ true
-or-true true = refl
-or-true false = refl
 
 low-here : (low a b : ℕ) (e : Entry) → low ≤ e .key → (not (meets a b e) || leb low (e .key)) ≡ true
 low-here low a b e l = ap (λ (t : Bool). not (meets a b e) || t) (le-leb low (e .key) l) ∙ or-true (not (meets a b e))

@@ -1,5 +1,5 @@
 -- Laws about quick/specs/Part. Assumes nothing.
-use Prim.Native.Nat.{ℕ, zero, suc, _+_, _*_, _-_, _<_, _≤_, min, max}
+use Prim.Native.Nat.{ℕ, zero, suc, _+_, _*_, _-_, _<_, _≤_, min}
 use mathlib.Core.Bool.{Bool, true, false, _&&_, _||_, not}
 use mathlib.Core.Path.{_≡_, refl, ap, sym, _∙_, subst}
 use mathlib.Core.Logic.{_⊎_, inl, inr}
@@ -14,9 +14,9 @@ use Rattle.model.specs.Basic.{all, those, keep, pick, inOrder}
 use Rattle.model.specs.Entry.{before}
 use Rattle.model.specs.Layout.{readEntry, readEntries, decodePage}
 use Rattle.spans.specs.Quick.{past, pastAll, kept, apart, lowOver, keyOver, manyOver, fineOver}
-use Rattle.model.specs.Inner.{firstOk}
+use Rattle.model.specs.Inner.{firstOk, In}
 use Rattle.model.proofs.lists.Lists.{both-true}
-use Rattle.model.proofs.lists.Members.{In, in-those}
+use Rattle.model.proofs.lists.Members.{in-those}
 use Rattle.spans.proofs.laws.Neighbours.{apart-neighbours}
 use Rattle.spans.proofs.laws.Stretches.{kept-order}
 use Rattle.page.specs.declared.Head.{Head}
@@ -24,17 +24,6 @@ use Rattle.page.specs.Head.{readHead}
 use Rattle.page.proofs.laws.Read.{level-of, entries-of, entries-step, entries-end, read-sized}
 
 -- ---- from a on no entry leads back
-
-pub past-more : (a : ℕ) (e : Entry) → a ≤ past a e
-past-more a e = at (leb (e .start) a)
-  where
-    at : (t : Bool) → a ≤ pick t (max a (e .end)) a
-    at true = omega arith
-    at false = omega arith
-
-pub past-grows : (a : ℕ) (es : List Entry) → a ≤ pastAll a es
-past-grows a [] = omega arith
-past-grows a (e ∷ es) = omega (arith, past-more a e, past-grows (past a e) es)
 
 pub leb-min : (m x : ℕ) → leb m (min m x) ≡ leb m x
 leb-min m x = at (less x m)

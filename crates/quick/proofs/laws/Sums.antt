@@ -9,11 +9,11 @@ use lib.Dec.{leb, eqb}
 use lib.ListN.{length, getD, replicate, length-set, length-replicate, getD-replicate}
 use lib.Seq.{getD-set-same, getD-set-other}
 use borrow.Author.Tests.{eq-eqb, ne-eqb}
-use Rattle.bits.proofs.laws.Put.{same?}
 use Rattle.model.specs.declared.Entry.{Entry}
 use Rattle.model.specs.declared.Slot.{Slot}
 use Rattle.model.specs.Basic.{pick}
 use Rattle.model.specs.Layout.{pageOf, decodePage, readEntry, readEntries, readSlot, readSlots, readPages}
+use Rattle.model.proofs.lists.Bools.{same?}
 use Rattle.spans.specs.Quick.{upto}
 use Rattle.page.specs.declared.Head.{Head}
 use Rattle.page.specs.Head.{readHead}

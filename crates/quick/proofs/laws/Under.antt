@@ -1,6 +1,6 @@
 -- Laws about quick/specs/Under. Assumes nothing.
 use Prim.Native.Nat.{ℕ, zero, suc, _+_, _*_, _-_, _<_, _≤_, min, max}
-use mathlib.Core.Bool.{Bool, true, false, _&&_, _||_, not}
+use mathlib.Core.Bool.{Bool, true, false, _&&_, _||_, not, or-true, and-true}
 use mathlib.Core.Path.{_≡_, refl, ap, sym, _∙_}
 use mathlib.Core.List.{List, [], _∷_}
 use native.Mathlib.Omega.{arith}
@@ -12,12 +12,12 @@ use Rattle.model.specs.Page.{Page}
 use Rattle.model.specs.Store.{page}
 use Rattle.model.specs.Layout.{readEntry, readEntries, pageOf, decode}
 use Rattle.spans.specs.Quick.{meets, past, pastAll, kept, lastFine, lasts, under, nextFine, nexts, fineOver, routersFine}
+use Rattle.spans.proofs.laws.Stretches.{past-more, past-all-more}
 use Rattle.page.proofs.laws.Read.{entries-step, entries-end, entries-of}
 use Rattle.store.proofs.laws.Read.{page-at}
 use Rattle.local.specs.Local.{IsPage, countAt}
 use Rattle.quick.specs.declared.under.Way.{Way}
 use Rattle.quick.specs.Part.{highOver}
-use Rattle.quick.proofs.laws.Part.{past-more, past-grows}
 use Rattle.quick.specs.Under.{wayIf, wayOf, underPage}
 
 -- ---- an empty stretch
@@ -38,14 +38,6 @@ nexts-empty f a b [] l = refl
 nexts-empty f a b (e ∷ es) l = rw (meets-empty a b e l, nexts-empty f (past a e) b es (omega (arith, past-more a e)))
 
 -- ---- one entry
-
-or-true : (b : Bool) → (b || true) ≡ true
-or-true true = refl
-or-true false = refl
-
-and-one : (b : Bool) → (b && true) ≡ b
-and-one true = refl
-and-one false = refl
 
 last-is : (f : ℕ → ℕ → ℕ → Bool) → ((c d m : ℕ) → d ≤ c → f c d m ≡ true) → (h a b : ℕ) (e : Entry) (es : List Entry)
     → lastFine f h a b e es ≡ (wayOf h a b e es .fine && f (wayOf h a b e es .from) (wayOf h a b e es .upto) (wayOf h a b e es .page))
@@ -69,7 +61,7 @@ last-is f g h a b e es = at (meets a b e)
 lasts-high : (h a b : ℕ) (es : List Entry) → lasts (λ (c d m : ℕ). true) h a b es ≡ highOver h a b es
 lasts-high h a b [] = refl
 lasts-high h a b (e ∷ es) =
-    rw (or-true (leb (min b (e .end)) (pastAll (max a (e .start)) es)), and-one (ltb (e .key) h), lasts-high h a b es)
+    rw (or-true (leb (min b (e .end)) (pastAll (max a (e .start)) es)), and-true (ltb (e .key) h), lasts-high h a b es)
 
 next-is : (f : ℕ → ℕ → ℕ → Bool) → ((h c d : ℕ) → d ≤ c → f h c d ≡ true) → (a b : ℕ) (e : Entry)
     → nextFine f a b e ≡ f (e .key) (max a (e .start)) (min b (e .end))
@@ -206,7 +198,7 @@ way-late h a b e es w q l = at (meets a b e) q
     at true z =
         let f : w .from ≡ min (min b (e .end)) (pastAll (max a (e .start)) es) = ap (λ (x : Way). x .from) z in
         let u : w .upto ≡ min b (e .end) = ap (λ (x : Way). x .upto) z in
-        (omega (arith, past-grows (max a (e .start)) es), omega arith)
+        (omega (arith, past-all-more (max a (e .start)) es), omega arith)
     at false z =
         let f : w .from ≡ 0 = ap (λ (x : Way). x .from) z in
         let u : w .upto ≡ 0 = ap (λ (x : Way). x .upto) z in

@@ -9,9 +9,8 @@ use Rattle.model.specs.declared.Entry.{Entry}
 use Rattle.model.specs.Page.{pairsAt}
 use Rattle.model.specs.Store.{page}
 use Rattle.model.specs.Layout.{readEntry, readEntries, pageOf, decodePage, decode}
-use Rattle.model.specs.Inner.{Out}
-use Rattle.model.proofs.lists.Members.{In}
-use Rattle.model.proofs.sound.Quiet.{QuietPage, pairs-still}
+use Rattle.model.specs.Inner.{Out, In}
+use Rattle.model.proofs.sound.Quiet.{QuietPage, pairs-still, out-less}
 use Rattle.page.specs.Head.{readHead}
 use Rattle.page.proofs.laws.Read.{start-of, end-of, entries-of}
 use Rattle.store.proofs.laws.Read.{page-at}
@@ -19,9 +18,6 @@ use Rattle.local.specs.Local.{IsPage}
 use Rattle.reach.specs.Versions.{QuietEntries, QuietPart}
 
 -- ---- one more
-
-pub out-less : (v r q x : ℕ) → Out v r x → q ≤ r → Out v q x
-out-less v r q x o h = ⊎-elim (λ l. inl l) (λ l. inr (omega arith)) o
 
 pub quiet-none : (p : List ℕ) (v r : ℕ) → QuietEntries p 0 v r
 quiet-none p v r = record { starts = λ i l. absurd (omega arith); ends = λ i l. absurd (omega arith) }

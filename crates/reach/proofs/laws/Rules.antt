@@ -15,7 +15,7 @@ use Rattle.model.specs.Store.{lastOf}
 use Rattle.model.specs.Walk.{Seen, seen}
 use Rattle.model.specs.Sound.{reachedWell, versions, rule6}
 use Rattle.model.specs.Layout.{readHeader, decode}
-use Rattle.model.proofs.sound.ByRule.{numbers}
+use Rattle.model.specs.ByRule.{numbers}
 use Rattle.model.proofs.lists.Members.{bool-cases, not-both, all-in, in-count}
 use Rattle.store.proofs.laws.Read.{oldest-of}
 use Rattle.local.proofs.laws.First.{last-is}

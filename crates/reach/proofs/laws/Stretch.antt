@@ -1,13 +1,13 @@
 -- Tests over what is seen at each version of a stretch. Assumes nothing.
 use Prim.Native.Nat.{ℕ, zero, suc, _+_, _-_, _<_, _≤_}
 use mathlib.Core.Path.{_≡_, refl, ap, ap₂, sym, _∙_}
-use mathlib.Core.Bool.{Bool, true, false, _||_}
+use mathlib.Core.Bool.{Bool, true, false, _||_, or-assoc, or-self}
 use mathlib.Core.List.{List, [], _∷_, _++_, append-nil}
 use native.Mathlib.Omega.{arith}
 use Rattle.model.specs.Basic.{any, flatMap, count}
 use Rattle.model.specs.Walk.{Seen}
 use Rattle.reach.specs.Pending.{over}
-use Rattle.reach.proofs.laws.Tests.{any-append, or-assoc}
+use Rattle.reach.proofs.laws.Tests.{any-append}
 
 -- x and what is behind it, twice
 twice : (x a b : Bool) → ((x || a) || (x || b)) ≡ (x || (a || b))
@@ -75,11 +75,7 @@ module _ (g : Seen → Bool) where
 
   flat-const : (f : ℕ → List Seen) (x : Bool) → ((v : ℕ) → any g (f v) ≡ x) → (a n : ℕ) → any g (flatMap f (count a (suc n))) ≡ x
   flat-const f x e a zero = ap (any g) (append-nil (f a)) ∙ e a
-  flat-const f x e a (suc n) = any-append g (f a) (flatMap f (count (suc a) (suc n))) ∙ rw (e a, flat-const f x e (suc a) n) (same-twice x)
-    where
-      same-twice : (b : Bool) → (b || b) ≡ b
-      same-twice true = refl
-      same-twice false = refl
+  flat-const f x e a (suc n) = any-append g (f a) (flatMap f (count (suc a) (suc n))) ∙ rw (e a, flat-const f x e (suc a) n) (or-self x)
 
   -- the same answer at each version
   pub over-const : (f : ℕ → List Seen) (x : Bool) (a b : ℕ) → a < b → ((v : ℕ) → any g (f v) ≡ x) → any g (over f a b) ≡ x

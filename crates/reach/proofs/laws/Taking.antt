@@ -10,13 +10,14 @@ use lib.Seq.{getD-set-same, getD-set-other}
 use borrow.Author.Tests.{eq-eqb, ne-eqb, lt-ltb, le-ltb}
 use native.Mathlib.Omega.{arith}
 use native.Mathlib.Nat.{suc-mul}
-use Rattle.bits.proofs.laws.Put.{same?, less}
+use Rattle.bits.proofs.laws.Put.{less}
 use Rattle.model.specs.declared.Pair.{Pair}
 use Rattle.model.specs.Basic.{all, any, pick}
 use Rattle.model.specs.Page.{Page, pairsAt}
 use Rattle.model.specs.Store.{page}
 use Rattle.model.specs.Walk.{Seen}
 use Rattle.model.specs.Layout.{readHeader, pageOf, decode}
+use Rattle.model.proofs.lists.Bools.{same?}
 use Rattle.local.specs.Local.{IsPage, countAt, levelAt}
 use Rattle.reach.specs.declared.marks.Item.{Item}
 use Rattle.notes.specs.Linked.{Linked}

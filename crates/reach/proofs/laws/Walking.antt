@@ -1,7 +1,7 @@
 -- What is known at the heads of the walk's two loops, and laws of the list of items. Assumes nothing.
 use Prim.Native.Nat.{ℕ, zero, suc, _+_, _*_, _-_, _<_, _≤_}
 use mathlib.Core.Path.{_≡_, refl, ap, ap₂, sym, _∙_}
-use mathlib.Core.Bool.{Bool, true, false, _||_}
+use mathlib.Core.Bool.{Bool, true, false, _||_, or-false}
 use mathlib.Core.List.{List, [], _∷_, _++_}
 use mathlib.Core.Logic.{⊎-elim}
 use lib.Dec.{ltb, eqb}
@@ -19,13 +19,13 @@ use Rattle.model.specs.Page.{Page, pairsAt}
 use Rattle.model.specs.Store.{page}
 use Rattle.model.specs.Walk.{Seen, seenBelow}
 use Rattle.model.specs.Layout.{readEntry, pageOf, decode}
+use Rattle.notes.proofs.laws.Means.{spread-cons}
 use Rattle.page.proofs.laws.Read.{entries-of}
 use Rattle.store.proofs.laws.Read.{page-at}
 use Rattle.local.specs.Local.{IsPage, countAt}
 use Rattle.reach.specs.declared.marks.Item.{Item}
 use Rattle.reach.specs.Pending.{firstKey, openOk, chainOk, passes, over, pairsFrom, wholeIn, isNumber}
 use Rattle.reach.proofs.laws.Pending.{here, seenOf, kids, spanOf, kidsIn, none, pend, Same, weight, heft, weigh, Fine}
-use Rattle.reach.proofs.laws.Tests.{spread-cons}
 use Rattle.reach.proofs.laws.Stretch.{over-none, over-nil, over-both, over-const}
 
 abbrev pub kidWeight : ℕ → ℕ
@@ -192,10 +192,6 @@ leaf-number ps it m e lt = over-const (isNumber m) (λ (v : ℕ). seenOf ps v it
   where
     alone : (v : ℕ) (xs : List Pair) → kids (it .up) ps v xs (it .high) ≡ []
     alone v xs = ap (λ (u : ℕ). kids u ps v xs (it .high)) e ∙ kids-zero ps v xs (it .high)
-
-    or-false : (b : Bool) → (b || false) ≡ b
-    or-false true = refl
-    or-false false = refl
 
     at : (v : ℕ) → any (isNumber m) (seenOf ps v it) ≡ eqb m (it .page)
     at v =

@@ -6,9 +6,10 @@ use Rattle.store.proofs.laws.Sure.{few, front}
 use Rattle.store.proofs.laws.Read.{current-lt}
 use Rattle.reads.specs.Reading.{reading}
 use Rattle.reads.proofs.laws.Reading.{unread-of, gives-five, gives-six, gives-none}
-use Rattle.reads.proofs.laws.Guard.{judged-number, zero-sound}
+use Rattle.reads.proofs.laws.Guard.{judged-number}
 use Rattle.reads.proofs.guard_reading.Statement.{statement}
 use Rattle.reads.proofs.guard_reading.Tie as tie
+use Rattle.model.proofs.sound.Judging.{zero-sound}
 
 number-requires : tie.Need-number-requires
 number-requires c κs = search needs

@@ -4,7 +4,7 @@ use native.Mathlib.Omega.{arith}
 use mathlib.Core.Bool.{Bool, true, false}
 use mathlib.Core.Path.{_≡_, refl, ap, sym, _∙_}
 use mathlib.Core.List.{List, [], _∷_}
-use borrow.Author.Tests.{eq-eqb, eqb-true}
+use borrow.Author.Tests.{eqb-true}
 use Rattle.model.specs.declared.Limits.{Limits}
 use Rattle.model.specs.Store.{Store}
 use Rattle.model.specs.Layout.{decode}
@@ -12,6 +12,7 @@ use Rattle.model.specs.Judged.{judged, isSound}
 use Rattle.model.specs.Climb.{Result, refused}
 use Rattle.model.specs.Calls.{Rule, firstOf, numbered}
 use Rattle.model.specs.Lent.{Outcome, left, judgedFirst, lent}
+use Rattle.model.proofs.sound.Judging.{zero-sound}
 use Rattle.reads.specs.Guard.{guarded, Sure}
 
 -- one that is not owes nothing
@@ -26,10 +27,6 @@ refused-by (suc n) refuse go z = refl
 
 pub goes-by {ℓ} : {A : Type ℓ} (n : ℕ) (refuse : ℕ → A) (go : A) → n ≡ 0 → go ≡ judgedFirst n refuse go
 goes-by n refuse go z = sym (ap (λ (k : ℕ). judgedFirst k refuse go) z)
-
-pub zero-sound : (least : ℕ) (b : List ℕ) → judged least b .number ≡ 0 → isSound least b ≡ true
-unfolding isSound
-zero-sound least b e = eq-eqb (judged least b .number) 0 e
 
 pub sound-zero : (least : ℕ) (b : List ℕ) → isSound least b ≡ true → judged least b .number ≡ 0
 unfolding isSound

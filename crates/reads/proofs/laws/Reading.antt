@@ -1,6 +1,5 @@
 -- Laws about reads/specs/Reading. Assumes nothing.
 use Prim.Native.Nat.{ℕ}
-use native.Mathlib.Omega.{arith}
 use mathlib.Core.Bool.{Bool, true, false}
 use mathlib.Core.Path.{_≡_, refl, ap, ap₂, sym, _∙_}
 use mathlib.Core.List.{List, [], _∷_}
@@ -18,6 +17,7 @@ use Rattle.model.specs.Told.{toldBy}
 use Rattle.model.specs.Visited.{pageNumber, visits}
 use Rattle.model.specs.Lent.{judgedFirst, Listed, listed, visitsLent}
 use Rattle.model.proofs.sound.ByRule.{readable-of}
+use Rattle.model.proofs.reading.Readings.{none-holds}
 use Rattle.walk.specs.Sure.{Walkable}
 use Rattle.reads.specs.Guard.{guarded}
 use Rattle.reads.proofs.laws.Guard.{refused-by, goes-by, chain-number, by-guard, guard-sound, guard-chain}
@@ -75,11 +75,6 @@ module _ (least : ℕ) (b : List ℕ) where
       gives-none g = late false g
 
 -- ---- what the guard's 0 says
-
-none-holds : (bad late : Bool) → firstOf (rule 5 bad ∷ rule 6 late ∷ []) ≡ 0 → (bad ≡ false) × (late ≡ false)
-none-holds true late e = absurd (omega arith)
-none-holds false true e = absurd (omega arith)
-none-holds false false e = (refl, refl)
 
 module _ {l : Limits} (d : Edition l) (b : List ℕ) (bad : Bool) (v : ℕ) (z : guarded (l .least) b (reading bad v) ≡ 0) where
   pub reads : Walkable l b v

@@ -14,9 +14,9 @@ use Rattle.model.specs.Layout.{readHeader, decode}
 use Rattle.model.specs.Judged.{judged}
 use Rattle.model.specs.State.{stateOf, untold}
 use Rattle.model.specs.Lent.{judgedFirst, stateLent}
+use Rattle.model.proofs.needs.Sizes.{frees-few}
 use Rattle.parts.specs.Kept.{ExactBytes, pagesOf}
 use Rattle.parts.proofs.laws.Kept.{header-is}
-use Rattle.update.proofs.laws.Foreseen.{free-few}
 use Rattle.reads.proofs.laws.Guard.{refused-by, goes-by}
 
 module _ (least : ℕ) (b : List ℕ) (n : ℕ) (e : n ≡ judged least b .number) where
@@ -33,7 +33,7 @@ module _ (least : ℕ) (b : List ℕ) (n : ℕ) (e : n ≡ judged least b .numbe
 module _ {l : Limits} {b : List ℕ} (k : ExactBytes l b) where
   -- 4,096 pages at the most
   pub free-fits : length (freeOnes (pagesOf l b)) < 2 ^ 32
-  free-fits = omega (arith, free-few (pagesOf l b), k .most)
+  free-fits = omega (arith, frees-few (pagesOf l b), k .most)
 
   -- the header has the number of pages, that of roots and the oldest version
   abbrev by-header : Header → ℕ → ℕ → State

@@ -4,18 +4,16 @@ use native.Mathlib.Omega.{arith}
 use mathlib.Core.Bool.{true, false}
 use mathlib.Core.Path.{_≡_, refl, ap, sym, _∙_}
 use mathlib.Core.Logic.{inl}
-use mathlib.Core.List.{List, [], _∷_}
-use lib.ListN.{length}
+use mathlib.Core.List.{List}
 use borrow.Author.Tests.{ne-eqb}
 use Rattle.model.specs.Basic.{all}
 use Rattle.model.specs.declared.Entry.{Entry}
 use Rattle.model.specs.declared.Limits.{Limits}
 use Rattle.model.specs.Page.{Page, isFree}
-use Rattle.model.specs.Store.{Store, page, next, last}
-use Rattle.model.specs.Sound.{entryOk, liesWell}
+use Rattle.model.specs.Store.{Store, page, next}
 use Rattle.model.specs.Layout.{pageOf, decodePage, decode}
-use Rattle.model.proofs.lists.Lists.{both-true, both-intro}
-use Rattle.model.proofs.sound.ByRule.{entry-ok}
+use Rattle.model.proofs.lists.Members.{all-by}
+use Rattle.model.proofs.sound.ByRule.{entry-of}
 use Rattle.model.proofs.sound.Ready.{level-used}
 use Rattle.page.specs.Head.{readHead}
 use Rattle.store.proofs.laws.Read.{page-at}
@@ -24,23 +22,13 @@ use Rattle.walk.proofs.laws.Sure.{five, size}
 use Rattle.release.specs.Settled.{settled}
 use Rattle.release.specs.Opened.{Opened}
 
-module _ (s : Store) (p : Page) (leaf : p .level ≡ 1) (h : p .end < next s) where
+module _ (s : Store) (p : Page) (h : p .end < next s) where
   quiet : (e : Entry) → e .end ≤ p .end → e .start < e .end → settled s e ≡ true
   quiet e a b =
       rw (
         ne-eqb (e .start) (next s) (λ (z : e .start ≡ next s). omega (arith, z, h, a, b)),
         ne-eqb (e .end) (next s) (λ (z : e .end ≡ next s). omega (arith, z, h, a)),
       )
-
-  all-quiet : (es : List Entry) → all (entryOk (last s) (length (s .pages)) (p .level)) es ≡ true → all (liesWell s p) es ≡ true
-      → all (settled s) es ≡ true
-  all-quiet [] a b = refl
-  all-quiet (e ∷ es) a b =
-      let (x, xs) = both-true (entryOk (last s) (length (s .pages)) (p .level) e)
-      (all (entryOk (last s) (length (s .pages)) (p .level)) es) a in
-      let (y, ys) = both-true (liesWell s p e) (all (liesWell s p) es) b in
-      let g = entry-ok s p e x y in
-      both-intro (settled s e) (all (settled s) es) (quiet e (g .sooner (inl leaf)) (g .span .some)) (all-quiet es xs ys)
 
 end-read : (least : ℕ) (p : List ℕ) → decodePage least p .end ≡ readHead least p .end
 unfolding decodePage readHead
@@ -58,5 +46,6 @@ module _ {l : Limits} {b : List ℕ} {c : ℕ} (o : Opened l b c) (n : ℕ) (e :
       let s : Store = decode (l .least) b in
       let d = sure (o .edition) b (o .sound) in
       let u : isFree (page (s .pages) n) ≡ false = level-used (page (s .pages) n) 0 e in
-      sym (all-quiet s (page (s .pages) n) e (omega (arith, h, end-is, o .current)) (page (s .pages) n .entries) (d .pages n u .entries)
-      (d .spans n u))
+      sym (all-by (settled s) (page (s .pages) n .entries) (λ x i.
+      let g = entry-of (l .least) s d n u x i in
+      quiet s (page (s .pages) n) (omega (arith, h, end-is, o .current)) x (g .sooner (inl e)) (g .span .some)))

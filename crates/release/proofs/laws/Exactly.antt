@@ -20,8 +20,10 @@ use Rattle.model.specs.Store.{Store, page, next, last, lastOf}
 use Rattle.model.specs.Walk.{keyLimit, find, settings}
 use Rattle.model.specs.Same.{samePairs}
 use Rattle.model.specs.Calls.{unchanged}
-use Rattle.model.proofs.lists.Members.{In, all-in, all-by, in-count, bool-cases, not-both}
-use Rattle.model.proofs.sound.ByRule.{Readable, old-current, Sound, GoodEntry, entry-of, used-in, high-used}
+use Rattle.model.specs.Inner.{In}
+use Rattle.model.specs.ByRule.{Readable, Sound}
+use Rattle.model.proofs.lists.Members.{all-in, all-by, in-count, bool-cases, not-both}
+use Rattle.model.proofs.sound.ByRule.{old-current, GoodEntry, entry-of, used-in, high-used}
 use Rattle.model.proofs.sound.Ready.{level-used, within-of, of-within}
 use Rattle.model.proofs.reading.Lookups.{lookup-is, settings-rise, settings-low}
 use Rattle.model.proofs.reading.Same.{same-equal, equal-same, finds-equal}

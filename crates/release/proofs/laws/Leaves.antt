@@ -2,26 +2,27 @@
 -- Assumes nothing.
 use Prim.Native.Nat.{ℕ, zero, suc, _≤_}
 use native.Mathlib.Omega.{arith}
-use mathlib.Core.Bool.{Bool, true, false}
+use mathlib.Core.Bool.{true}
 use mathlib.Core.Option.{some}
 use mathlib.Core.Path.{_≡_, refl, ap, sym, _∙_, subst}
 use mathlib.Core.Logic.{inl, inr}
 use mathlib.Core.List.{List, [], _∷_}
-use lib.Dec.{ltb, eqb}
-use borrow.Author.Tests.{eqb-true, eq-eqb, ne-eqb, ltb-true}
-use Rattle.model.specs.Basic.{all, pick, flatMap, those}
+use lib.Dec.{ltb}
+use borrow.Author.Tests.{eq-eqb, ne-eqb, ltb-true}
+use Rattle.model.specs.Basic.{all, flatMap, those}
 use Rattle.model.specs.declared.Pair.{Pair}
 use Rattle.model.specs.declared.Entry.{Entry}
 use Rattle.model.specs.Entry.{pair, pairOf, liveAt}
 use Rattle.model.specs.Page.{Page, pairsAt}
 use Rattle.model.specs.Store.{Store, page}
 use Rattle.model.specs.Walk.{find, below, heightOf, rootAt, settings}
-use Rattle.model.specs.Inner.{rising}
+use Rattle.model.specs.Inner.{rising, In}
+use Rattle.model.specs.ByRule.{Readable, Sound}
 use Rattle.model.proofs.lists.Lists.{both-true}
-use Rattle.model.proofs.lists.Members.{In, in-left, in-right, those-in, map-in, all-in}
+use Rattle.model.proofs.lists.Members.{in-left, in-right, those-in, map-in, all-in}
+use Rattle.model.proofs.lists.Merging.{find-in}
 use Rattle.model.proofs.sound.Once.{in-flat}
 use Rattle.model.proofs.sound.Walks.{Reach}
-use Rattle.model.proofs.sound.ByRule.{Readable, Sound}
 use Rattle.model.proofs.sound.Ready.{level-used, shown-by, root-level, lives-by, reached-of, reach-level}
 use Rattle.model.proofs.reading.Lookups.{settings-rise}
 
@@ -29,15 +30,6 @@ flat-in : {A B : Type 0} (f : A → List B) (b : B) (a : A) (xs : List A) → In
 flat-in f b a [] i j = absurd i
 flat-in f b a (x ∷ xs) (inl e) j = in-left b (f x) (flatMap f xs) (subst (λ (z : _). In b (f z)) e j)
 flat-in f b a (x ∷ xs) (inr i) j = in-right b (f x) (flatMap f xs) (flat-in f b a xs i j)
-
-find-in : (k z : ℕ) (us : List Pair) → find k us ≡ some z → In (pair k z) us
-find-in k z [] h = absurd (let n : _≡_ {A = ℕ} 0 1 = cc in omega arith)
-find-in k z (u ∷ us) h = at (eqb (u .key) k) refl h (λ g. find-in k z us g)
-  where
-    at : (b : Bool) → eqb (u .key) k ≡ b → pick b (some (u .value)) (find k us) ≡ some z → (find k us ≡ some z → In (pair k z) us)
-        → In (pair k z) (u ∷ us)
-    at true e g ih = let v : u .value ≡ z = cc in inl (λ i. record { key = sym (eqb-true (u .key) k e) i; value = sym v i })
-    at false e g ih = inr (ih g)
 
 in-find : (x : Pair) (us : List Pair) → rising us ≡ true → In x us → find (x .key) us ≡ some (x .value)
 in-find x [] r i = absurd i

@@ -14,7 +14,7 @@ use Rattle.model.specs.Basic.{those}
 use Rattle.model.specs.Store.{Store, next}
 use Rattle.model.specs.Sound.{isPage}
 use Rattle.model.specs.Climb as climb
-use Rattle.model.proofs.sound.ByRule.{Sound}
+use Rattle.model.specs.ByRule.{Sound}
 use Rattle.model.proofs.lists.Lists.{both-true}
 use Rattle.model.proofs.lists.Members.{all-in, in-right}
 use Rattle.parts.specs.Kept.{Inside, pagesOf}

@@ -1,5 +1,5 @@
 -- Laws about root/specs/Slotted. Assumes nothing.
-use Prim.Native.Nat.{ℕ, suc, _+_, _*_, _-_, _^_, _≤_, _<_}
+use Prim.Native.Nat.{ℕ, suc, _+_, _*_, _-_, _^_, _<_}
 use mathlib.Core.Path.{_≡_, ap, sym, _∙_, subst}
 use mathlib.Core.Bool.{true, false}
 use mathlib.Core.List.{List, [], _∷_, _++_}
@@ -13,7 +13,6 @@ use Rattle.model.specs.Limits.{Edition}
 use Rattle.model.specs.Basic.{all, inOrder}
 use Rattle.model.specs.Page.{Page}
 use Rattle.model.specs.Store.{Store, next, lastOf}
-use Rattle.model.specs.Sound.{firstVersion}
 use Rattle.model.specs.Field.{lay}
 use Rattle.model.specs.Header.{withRoots}
 use Rattle.model.specs.Layout.{noSlot, headerOf, readHeader, readSlot, encode, decode}
@@ -21,6 +20,7 @@ use Rattle.model.specs.Judged.{isSound}
 use Rattle.model.specs.Climb.{putSlot}
 use Rattle.model.specs.Needs.{hasSlot}
 use Rattle.model.proofs.needs.OpenSlot.{last-slot, put-new, put-over}
+use Rattle.model.proofs.sound.ByRule.{some-slot}
 use Rattle.store.specs.Slots.{SlotFits, slotParts}
 use Rattle.store.specs.Header.{putHeader}
 use Rattle.store.proofs.laws.Holds.{slot-encoded}
@@ -32,10 +32,6 @@ use Rattle.parts.proofs.laws.Kept.{header-is}
 use Rattle.parts.specs.Becomes.{Becomes}
 use Rattle.parts.proofs.laws.Becomes.{shows}
 use Rattle.root.specs.Slotted.{slotsOf, Slotted}
-
-some-slot : (old : ℕ) (xs : List Slot) → firstVersion old xs ≤ old → 0 < length xs
-some-slot old [] e = absurd (omega arith)
-some-slot old (x ∷ xs) e = omega arith
 
 -- a sound store whose update is open
 pub slotted-sound : {l : Limits} → Edition l → (b : List ℕ) → isSound (l .least) b ≡ true → decode (l .least) b .opened ≡ true → Slotted l b

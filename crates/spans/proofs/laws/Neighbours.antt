@@ -29,8 +29,8 @@ later-start e f h k = at (either-true (ltb (e .key) (f .key)) (eqb (e .key) (f .
     at (inl x) = absurd (omega (arith, ltb-true (e .key) (f .key) x))
     at (inr x) = ltb-true (e .start) (f .start) (both-true (eqb (e .key) (f .key)) (ltb (e .start) (f .start)) x .1)
 
-later-key : (e f : Entry) → before e f ≡ true → e .key ≤ f .key
-later-key e f h = at (either-true (ltb (e .key) (f .key)) (eqb (e .key) (f .key) && ltb (e .start) (f .start)) h)
+pub before-key : (e f : Entry) → before e f ≡ true → e .key ≤ f .key
+before-key e f h = at (either-true (ltb (e .key) (f .key)) (eqb (e .key) (f .key) && ltb (e .start) (f .start)) h)
   where
     at : (ltb (e .key) (f .key) ≡ true) ⊎ ((eqb (e .key) (f .key) && ltb (e .start) (f .start)) ≡ true) → e .key ≤ f .key
     at (inl x) = omega (arith, ltb-true (e .key) (f .key) x)
@@ -49,12 +49,13 @@ both-carry d e f p q =
     let (c, g) = both-true (before e f) (apart e f) q in
     both-intro _ _ (before-carries d e f b c) (at b a c g (eqb (d .key) (f .key)) refl)
   where
-    at : before d e ≡ true → apart d e ≡ true → before e f ≡ true → apart e f ≡ true → (t : Bool) → eqb (d .key) (f .key) ≡ t → (not t || leb (d .end) (f .start)) ≡ true
+    at : before d e ≡ true → apart d e ≡ true → before e f ≡ true → apart e f ≡ true → (t : Bool) → eqb (d .key) (f .key) ≡ t
+        → (not t || leb (d .end) (f .start)) ≡ true
     at b a c g false z = refl
     at b a c g true z =
         let k : d .key ≡ f .key = eqb-true (d .key) (f .key) z in
-        let l : d .key ≤ e .key = later-key d e b in
-        let m : e .key ≤ f .key = later-key e f c in
+        let l : d .key ≤ e .key = before-key d e b in
+        let m : e .key ≤ f .key = before-key e f c in
         le-leb (d .end) (f .start) (omega (arith, apart-end d e a (omega arith), later-start e f c (omega arith)))
 
 module _ {A : Type 0} (f g : A → A → Bool) where
@@ -93,18 +94,22 @@ through-count : (a b v : ℕ) → a ≤ v → v < b → (es : List Entry) → le
 through-count a b v p q [] = omega arith
 through-count a b v p q (e ∷ es) = at (throughout a b e) (liveAt v e) refl refl (through-count a b v p q es)
   where
-    at : (x y : Bool) → throughout a b e ≡ x → liveAt v e ≡ y → length (those (throughout a b) es) ≤ liveCount v es → length (keep x e (those (throughout a b) es)) ≤ length (keep y e (those (liveAt v) es))
+    at : (x y : Bool) → throughout a b e ≡ x → liveAt v e ≡ y → length (those (throughout a b) es) ≤ liveCount v es
+        → length (keep x e (those (throughout a b) es)) ≤ length (keep y e (those (liveAt v) es))
     at true true h g ih = omega arith
     at true false h g ih = absurd (not-both (liveAt v e) (through-live a b v p q e h) g)
     at false true h g ih = omega arith
     at false false h g ih = ih
 
 pub many-through : (m a b : ℕ) (es : List Entry) → a < b → m ≤ length (those (throughout a b) es) → manyOver m a b es ≡ true
-many-through m a b es room h = both-intro _ _ (count a (omega arith) room) (all-by _ es (λ e i. each e (ltb a (e .end) && ltb (e .end) b) refl))
+many-through m a b es room h =
+    both-intro _ _ (count a (omega arith) room) (all-by _ es (λ e i. each e (ltb a (e .end) && ltb (e .end) b) refl))
   where
     count : (v : ℕ) → a ≤ v → v < b → leb m (liveCount v es) ≡ true
     count v p q = le-leb m (liveCount v es) (omega (arith, through-count a b v p q es))
 
     each : (e : Entry) → (t : Bool) → (ltb a (e .end) && ltb (e .end) b) ≡ t → (not t || leb m (liveCount (e .end) es)) ≡ true
     each e false z = refl
-    each e true z = let (p, q) = both-true (ltb a (e .end)) (ltb (e .end) b) z in count (e .end) (omega (arith, ltb-true a (e .end) p)) (ltb-true (e .end) b q)
+    each e true z =
+        let (p, q) = both-true (ltb a (e .end)) (ltb (e .end) b) z in
+        count (e .end) (omega (arith, ltb-true a (e .end) p)) (ltb-true (e .end) b q)

@@ -11,17 +11,19 @@ use borrow.Author.Tests.{leb-true, eqb-true, eq-eqb, not-true}
 use Rattle.model.specs.Basic.{all}
 use Rattle.model.specs.declared.Pair.{Pair}
 use Rattle.model.specs.declared.Entry.{Entry}
-use Rattle.model.specs.Entry.{alive, within}
+use Rattle.model.specs.Entry.{alive}
 use Rattle.model.specs.Page.{Page, isFree, pairsAt}
 use Rattle.model.specs.Store.{Store, page, last}
 use Rattle.model.specs.Walk.{seen, rootAt, heightOf, keyLimit, settings}
 use Rattle.model.specs.Sound.{inside, liesWell}
+use Rattle.model.specs.Inner.{In}
+use Rattle.model.specs.ByRule.{livesAt}
+use Rattle.model.specs.Tree.{Holds}
 use Rattle.model.proofs.lists.Lists.{both-true, both-intro}
-use Rattle.model.proofs.lists.Members.{either-true, In, all-in, all-by}
-use Rattle.model.proofs.sound.ByRule.{Front, GoodEntry, span-of, livesAt, entry-ok}
-use Rattle.model.proofs.tree.Tree.{Holds}
+use Rattle.model.proofs.lists.Members.{either-true, all-in, all-by}
+use Rattle.model.proofs.sound.ByRule.{Front, GoodEntry, span-of, entry-ok}
 use Rattle.model.proofs.sound.Walks.{Reach}
-use Rattle.model.proofs.sound.Ready.{root-is, used-level, level-used, of-within}
+use Rattle.model.proofs.sound.Ready.{root-is, used-level, level-used, of-within, Child}
 use Rattle.model.proofs.tree.Bridge.{passesAt, root-passes}
 use Rattle.spans.proofs.laws.Stretches.{Alive, shows-of}
 
@@ -31,7 +33,8 @@ module _ (least : ℕ) (two : 2 ≤ least) (s : Store) (d : Front least s) where
 
   pub entry-at : (n : ℕ) → isFree (page ps n) ≡ false → (e : Entry) → In e (page ps n .entries) → GoodEntry s (page ps n) e
   entry-at n u e i =
-      entry-ok s (page ps n) e (all-in _ e (page ps n .entries) (d .pages n u .entries) i) (all-in (liesWell s (page ps n)) e (page ps n .entries) (d .spans n u) i)
+      entry-ok s (page ps n) e (all-in _ e (page ps n .entries) (d .pages n u .entries) i)
+      (all-in (liesWell s (page ps n)) e (page ps n .entries) (d .spans n u) i)
 
   pub entry-some : (n : ℕ) → isFree (page ps n) ≡ false → (e : Entry) → In e (page ps n .entries) → e .start < e .end
   entry-some n u e i = entry-at n u e i .span .some
@@ -61,14 +64,17 @@ module _ (least : ℕ) (two : 2 ≤ least) (s : Store) (d : Front least s) where
     pub later : page ps (e .value) .start ≤ e .start
     pub sooner : e .end ≤ page ps (e .value) .end
 
-  pub leads-of : (n up : ℕ) (e : Entry) → page ps n .level ≡ suc (suc up) → In e (page ps n .entries) → s .oldest < e .end → RouterLeads up e
-  leads-of n up e l i kept = at (either-true (eqb (page ps n .level) 1 || leb (e .end) (s .oldest)) _ (entry-at n (level-used (page ps n) (suc up) l) e i .leads))
+  pub leads-of : (n up : ℕ) (e : Entry) → page ps n .level ≡ suc (suc up) → In e (page ps n .entries) → s .oldest < e .end
+      → RouterLeads up e
+  leads-of n up e l i kept =
+      at (either-true (eqb (page ps n .level) 1 || leb (e .end) (s .oldest)) _ (entry-at n (level-used (page ps n) (suc up) l) e i .leads))
     where
       not-out : (eqb (page ps n .level) 1 ≡ true) ⊎ (leb (e .end) (s .oldest) ≡ true) → ⊥
       not-out (inl z) = omega (arith, eqb-true (page ps n .level) 1 z)
       not-out (inr z) = omega (arith, leb-true (e .end) (s .oldest) z)
 
-      at : ((eqb (page ps n .level) 1 || leb (e .end) (s .oldest)) ≡ true) ⊎ ((inside e (page ps (e .value)) && eqb (suc (page ps (e .value) .level)) (page ps n .level)) ≡ true) → RouterLeads up e
+      at : ((eqb (page ps n .level) 1 || leb (e .end) (s .oldest)) ≡ true)
+          ⊎ ((inside e (page ps (e .value)) && eqb (suc (page ps (e .value) .level)) (page ps n .level)) ≡ true) → RouterLeads up e
       at (inl z) = absurd (not-out (either-true (eqb (page ps n .level) 1) (leb (e .end) (s .oldest)) z))
       at (inr z) =
           let (i, f) = both-true (inside e (page ps (e .value))) (eqb (suc (page ps (e .value) .level)) (page ps n .level)) z in
@@ -79,28 +85,33 @@ module _ (least : ℕ) (two : 2 ≤ least) (s : Store) (d : Front least s) where
             sooner = leb-true (e .end) (page ps (e .value) .end) q;
           }
 
-  pub record Child (v up n : ℕ) : Type 0 where
-    pub level : page ps n .level ≡ suc up
-    pub lives : within (page ps n .start) (page ps n .end) v ≡ true
-
-  pub child-at : (v : ℕ) → s .oldest ≤ v → (n up : ℕ) (x : Pair) → page ps n .level ≡ suc (suc up) → In x (pairsAt v (page ps n)) → Child v up (x .value)
+  pub child-at : (v : ℕ) → s .oldest ≤ v → (n up : ℕ) (x : Pair) → page ps n .level ≡ suc (suc up) → In x (pairsAt v (page ps n))
+      → Child ps v up (x .value)
   child-at v from n up x l i =
       let h = shows-of v (page ps n .entries) x i in
       let e = h .entry in
       let g = leads-of n up e l (h .is-in) (omega (arith, h .live .upto)) in
-      subst (λ (z : Pair). Child v up (z .value)) (sym (h .is))
-      (record { level = g .level; lives = of-within (page ps (e .value) .start) (page ps (e .value) .end) v (omega (arith, g .later, h .live .from)) (omega (arith, g .sooner, h .live .upto)) })
+      subst (λ (z : Pair). Child ps v up (z .value)) (sym (h .is))
+      (record {
+        level = g .level;
+        lives = of-within (page ps (e .value) .start) (page ps (e .value) .end) v
+            (omega (arith, g .later, h .live .from)) (omega (arith, g .sooner, h .live .upto));
+      })
 
   -- a page with a live entry lives
-  pub lives-with : (v : ℕ) → s .oldest ≤ v → (n : ℕ) (e : Entry) → isFree (page ps n) ≡ false → In e (page ps n .entries) → Alive v e → livesAt v (page ps n) ≡ true
+  pub lives-with : (v : ℕ) → s .oldest ≤ v → (n : ℕ) (e : Entry) → isFree (page ps n) ≡ false → In e (page ps n .entries) → Alive v e
+      → livesAt v (page ps n) ≡ true
   lives-with v from n e u i l =
       let g = entry-at n u e i in
-      both-intro _ _ (ap not u) (of-within (page ps n .start) (page ps n .end) v (omega (arith, g .later (inr (omega (arith, l .upto))), l .from)) (omega (arith, g .sooner (inr (omega (arith, l .upto))), l .upto)))
+      both-intro _ _ (ap not u)
+      (of-within (page ps n .start) (page ps n .end) v (omega (arith, g .later (inr (omega (arith, l .upto))), l .from))
+      (omega (arith, g .sooner (inr (omega (arith, l .upto))), l .upto)))
 
   pub reach-level : (v : ℕ) → s .oldest ≤ v → (l n j m : ℕ) → page ps n .level ≡ suc l → Reach ps v l n j m → page ps m .level ≡ suc j
   reach-level v from zero n j m e r = ap (λ (k : ℕ). page ps k .level) (r .number) ∙ e ∙ ap suc (sym (r .height))
   reach-level v from (suc l) n j m e (inl r) = ap (λ (k : ℕ). page ps k .level) (r .number) ∙ e ∙ ap suc (sym (r .height))
-  reach-level v from (suc l) n j m e (inr r) = reach-level v from l (r .router .value) j m (child-at v from n l (r .router) e (r .is-in) .level) (r .rest)
+  reach-level v from (suc l) n j m e (inr r) =
+      reach-level v from l (r .router .value) j m (child-at v from n l (r .router) e (r .is-in) .level) (r .rest)
 
   -- ---- the root
 
@@ -111,14 +122,19 @@ module _ (least : ℕ) (two : 2 ≤ least) (s : Store) (d : Front least s) where
   height v = heightOf ps (root v)
 
   pub root-used : (v : ℕ) → s .oldest ≤ v → isFree (page ps (root v)) ≡ false
-  root-used v from = not-true (isFree (page ps (root v))) (root-is (λ (n : ℕ). not (isFree (page ps n))) v (s .oldest) (s .slots) from (d .begins) (d .root-used))
+  root-used v from =
+      not-true (isFree (page ps (root v)))
+      (root-is (λ (n : ℕ). not (isFree (page ps n))) v (s .oldest) (s .slots) from (d .begins) (d .root-used))
 
   pub root-level : (v : ℕ) → s .oldest ≤ v → page ps (root v) .level ≡ suc (height v)
   root-level v from = used-level (page ps (root v)) (root-used v from)
 
   -- a walk that passes shows a tree
-  pub holds-at : (v : ℕ) → s .oldest ≤ v → all (passesAt least) (seen s v) ≡ true → Holds least v (height v) ps 0 keyLimit (pairsAt v (page ps (root v))) (settings s v)
+  pub holds-at : (v : ℕ) → s .oldest ≤ v → all (passesAt least) (seen s v) ≡ true
+      → Holds least v (height v) ps 0 keyLimit (pairsAt v (page ps (root v))) (settings s v)
   holds-at v from h =
       root-passes least two v ps
-      (λ m l e. all-by _ (pairsAt v (page ps m)) (λ x i. both-intro _ _ (eq-eqb (page ps (x .value) .level) (suc l) (child-at v from m l x e i .level)) (child-at v from m l x e i .lives)))
+      (λ m l e. all-by _ (pairsAt v (page ps m))
+      (λ x i. both-intro _ _ (eq-eqb (page ps (x .value) .level) (suc l) (child-at v from m l x e i .level))
+      (child-at v from m l x e i .lives)))
       (height v) (root v) (root-level v from) h

@@ -13,10 +13,12 @@ use Rattle.model.specs.Basic.{all, those, keep, pick, inOrder}
 use Rattle.model.specs.declared.Pair.{Pair}
 use Rattle.model.specs.declared.Entry.{Entry}
 use Rattle.model.specs.Entry.{pairOf, liveAt, before}
+use Rattle.model.specs.Inner.{In}
 use Rattle.spans.specs.Quick.{meets, past, pastAll, kept, apart, lowOver, keyOver, liveCount, manyOver}
 use Rattle.model.proofs.lists.Lists.{both-true, both-intro}
 use Rattle.model.proofs.lists.Rising.{lower}
-use Rattle.model.proofs.lists.Members.{not-both, either-true, either-left, either-right, bool-cases, In, all-in, all-by, in-those, those-in, in-map, map-in}
+use Rattle.model.proofs.lists.Members.{not-both, either-true, either-left, either-right, bool-cases, all-in, all-by, in-those, those-in}
+use Rattle.model.proofs.lists.Members.{in-map, map-in}
 
 -- the pairs alive at v
 abbrev pub livePairs : ℕ → List Entry → List Pair
@@ -78,7 +80,8 @@ to-meets a b e t f = at (bool-cases (meets a b e))
     at : (meets a b e ≡ true) ⊎ (meets a b e ≡ false) → (not (meets a b e) || t) ≡ true
     at (inl x) =
         let r : max a (e .start) < min b (e .end) = ltb-true (max a (e .start)) (min b (e .end)) x in
-        either-right (not (meets a b e)) t (f (record { low = omega arith; from = omega arith; room = r; high = omega arith; upto = omega arith }))
+        either-right (not (meets a b e)) t
+        (f (record { low = omega arith; from = omega arith; room = r; high = omega arith; upto = omega arith }))
     at (inr x) = either-left (not (meets a b e)) t (ap not x)
 
 -- ---- entries one after another
@@ -114,7 +117,8 @@ pub past-all-live : (a v : ℕ) (es : List Entry) → a ≤ v → v < pastAll a 
 past-all-live a v [] p q = absurd (omega arith)
 past-all-live a v (e ∷ es) p q = at (bool-cases (ltb v (past a e))) (λ h. past-all-live (past a e) v es h q)
   where
-    at : (ltb v (past a e) ≡ true) ⊎ (ltb v (past a e) ≡ false) → (past a e ≤ v → (f : Entry) × (In f es) × (Alive v f)) → (f : Entry) × (In f (e ∷ es)) × (Alive v f)
+    at : (ltb v (past a e) ≡ true) ⊎ (ltb v (past a e) ≡ false) → (past a e ≤ v → (f : Entry) × (In f es) × (Alive v f))
+        → (f : Entry) × (In f (e ∷ es)) × (Alive v f)
     at (inl x) ih = (e, inl refl, past-live a v e p (ltb-true v (past a e) x))
     at (inr x) ih = let (f, i, l) = ih (ltb-false v (past a e) x) in (f, inr i, l)
 
@@ -132,9 +136,12 @@ apart-keys v e f h l m same = at (either-true (not (eqb (e .key) (f .key))) (leb
 before-keys : (e f : Entry) → before e f ≡ true → (e .key < f .key) ⊎ ((e .key ≡ f .key) × (e .start < f .start))
 before-keys e f h = at (either-true (ltb (e .key) (f .key)) (eqb (e .key) (f .key) && ltb (e .start) (f .start)) h)
   where
-    at : (ltb (e .key) (f .key) ≡ true) ⊎ ((eqb (e .key) (f .key) && ltb (e .start) (f .start)) ≡ true) → (e .key < f .key) ⊎ ((e .key ≡ f .key) × (e .start < f .start))
+    at : (ltb (e .key) (f .key) ≡ true) ⊎ ((eqb (e .key) (f .key) && ltb (e .start) (f .start)) ≡ true)
+        → (e .key < f .key) ⊎ ((e .key ≡ f .key) × (e .start < f .start))
     at (inl x) = inl (ltb-true (e .key) (f .key) x)
-    at (inr x) = let (k, s) = both-true (eqb (e .key) (f .key)) (ltb (e .start) (f .start)) x in inr (eqb-true (e .key) (f .key) k, ltb-true (e .start) (f .start) s)
+    at (inr x) =
+        let (k, s) = both-true (eqb (e .key) (f .key)) (ltb (e .start) (f .start)) x in
+        inr (eqb-true (e .key) (f .key) k, ltb-true (e .start) (f .start) s)
 
 pub apart-less : (v : ℕ) (e f : Entry) → before e f ≡ true → apart e f ≡ true → Alive v e → Alive v f → e .key < f .key
 apart-less v e f b h l m = at (before-keys e f b)
@@ -150,14 +157,16 @@ apart-rises v (e ∷ es) o h =
     let (he, hs) = both-true (all (apart e) es) (inOrder apart es) h in
     at (liveAt v e) refl oe he (apart-rises v es os hs)
   where
-    at : (b : Bool) → liveAt v e ≡ b → all (before e) es ≡ true → all (apart e) es ≡ true → rising (livePairs v es) ≡ true → rising (map pairOf (keep b e (those (liveAt v) es))) ≡ true
+    at : (b : Bool) → liveAt v e ≡ b → all (before e) es ≡ true → all (apart e) es ≡ true → rising (livePairs v es) ≡ true
+        → rising (map pairOf (keep b e (those (liveAt v) es))) ≡ true
     at false x oe he ih = ih
     at true x oe he ih =
         both-intro _ _
         (all-by _ (livePairs v es) (λ y i.
         let s = shows-of v es y i in
         let f = s .entry in
-        let less : e .key < f .key = apart-less v e f (all-in (before e) f es oe (s .is-in)) (all-in (apart e) f es he (s .is-in)) (alive-of v e x) (s .live) in
+        let less : e .key < f .key = apart-less v e f (all-in (before e) f es oe (s .is-in)) (all-in (apart e) f es he (s .is-in))
+        (alive-of v e x) (s .live) in
         lt-ltb (e .key) (y .key) (omega (arith, ap (λ (z : Pair). z .key) (s .is)))))
         ih
 
@@ -169,46 +178,64 @@ rises-tail v e es h = at (liveAt v e) h
     at true x = both-true (all (λ (y : Pair). ltb (e .key) (y .key)) (livePairs v es)) (rising (livePairs v es)) x .1
     at false x = x
 
-rises-first : (v : ℕ) (e f : Entry) (es : List Entry) → rising (livePairs v (e ∷ es)) ≡ true → Alive v e → In f es → Alive v f → e .key < f .key
+rises-first : (v : ℕ) (e f : Entry) (es : List Entry) → rising (livePairs v (e ∷ es)) ≡ true → Alive v e → In f es → Alive v f
+    → e .key < f .key
 rises-first v e f es h l i m = at (liveAt v e) (of-alive v e l) h
   where
     at : (b : Bool) → b ≡ true → rising (map pairOf (keep b e (those (liveAt v) es))) ≡ true → e .key < f .key
     at true x r =
-        ltb-true (e .key) (f .key) (all-in (λ (y : Pair). ltb (e .key) (y .key)) (pairOf f) (livePairs v es) (both-true (all (λ (y : Pair). ltb (e .key) (y .key)) (livePairs v es)) (rising (livePairs v es)) r .0) (of-shows v es f i m))
+        ltb-true (e .key) (f .key)
+        (all-in (λ (y : Pair). ltb (e .key) (y .key)) (pairOf f) (livePairs v es)
+        (both-true (all (λ (y : Pair). ltb (e .key) (y .key)) (livePairs v es)) (rising (livePairs v es)) r .0) (of-shows v es f i m))
     at false x r = absurd (not-both false x refl)
 
 -- at the first version from `old` on at which the later of the two stands
-pub rises-apart : (old : ℕ) (es : List Entry) → inOrder before es ≡ true → ((e : Entry) → In e es → max old (e .start) < e .end) → ((e : Entry) → In e es → rising (livePairs (max old (e .start)) es) ≡ true)
+pub rises-apart : (old : ℕ) (es : List Entry) → inOrder before es ≡ true → ((e : Entry) → In e es → max old (e .start) < e .end)
+    → ((e : Entry) → In e es → rising (livePairs (max old (e .start)) es) ≡ true)
     → inOrder apart es ≡ true
 rises-apart old [] o some h = refl
 rises-apart old (e ∷ es) o some h =
     let (oe, os) = both-true (all (before e) es) (inOrder before es) o in
-    both-intro _ _ (all-by (apart e) es (λ f i. two f i (before-keys e f (all-in (before e) f es oe i)))) (rises-apart old es os (λ f i. some f (inr i)) (λ f i. rises-tail (max old (f .start)) e es (h f (inr i))))
+    both-intro _ _ (all-by (apart e) es (λ f i. two f i (before-keys e f (all-in (before e) f es oe i))))
+    (rises-apart old es os (λ f i. some f (inr i)) (λ f i. rises-tail (max old (f .start)) e es (h f (inr i))))
   where
     two : (f : Entry) → In f es → (e .key < f .key) ⊎ ((e .key ≡ f .key) × (e .start < f .start)) → apart e f ≡ true
-    two f i (inl l) = either-left (not (eqb (e .key) (f .key))) (leb (e .end) (f .start)) (ap not (ne-eqb (e .key) (f .key) (λ (q : e .key ≡ f .key). omega arith)))
+    two f i (inl l) =
+        either-left (not (eqb (e .key) (f .key))) (leb (e .end) (f .start))
+        (ap not (ne-eqb (e .key) (f .key) (λ (q : e .key ≡ f .key). omega arith)))
     two f i (inr (k, l)) = either-right (not (eqb (e .key) (f .key))) (leb (e .end) (f .start)) (by (bool-cases (leb (e .end) (f .start))))
       where
         by : (leb (e .end) (f .start) ≡ true) ⊎ (leb (e .end) (f .start) ≡ false) → leb (e .end) (f .start) ≡ true
         by (inl x) = x
         by (inr x) =
-            absurd (omega (arith, k, rises-first (max old (f .start)) e f es (h f (inr i)) (record { from = omega arith; upto = omega (arith, leb-false (e .end) (f .start) x, some e (inl refl)) }) i (record { from = omega arith; upto = some f (inr i) })))
+            absurd (omega (
+              arith,
+              k,
+              rises-first (max old (f .start)) e f es (h f (inr i))
+                  (record { from = omega arith; upto = omega (arith, leb-false (e .end) (f .start) x, some e (inl refl)) }) i
+                  (record { from = omega arith; upto = some f (inr i) }),
+            ))
 
 -- ---- low keys
 
-pub low-at : (low a b v : ℕ) (es : List Entry) → lowOver low a b es ≡ true → a ≤ v → v < b → (x : Pair) → In x (livePairs v es) → low ≤ x .key
+pub low-at : (low a b v : ℕ) (es : List Entry) → lowOver low a b es ≡ true → a ≤ v → v < b → (x : Pair) → In x (livePairs v es)
+    → low ≤ x .key
 low-at low a b v es h p q x i =
     let s = shows-of v es x i in
     let e = s .entry in
-    let l = given-meets a b v e (leb low (e .key)) p q (s .live) (all-in (λ (f : Entry). not (meets a b f) || leb low (f .key)) e es h (s .is-in)) in
+    let l = given-meets a b v e (leb low (e .key)) p q (s .live)
+    (all-in (λ (f : Entry). not (meets a b f) || leb low (f .key)) e es h (s .is-in)) in
     omega (arith, leb-true low (e .key) l, ap (λ (z : Pair). z .key) (s .is))
 
-pub at-low : (low a b : ℕ) (es : List Entry) → ((v : ℕ) → a ≤ v → v < b → (x : Pair) → In x (livePairs v es) → low ≤ x .key) → lowOver low a b es ≡ true
+pub at-low : (low a b : ℕ) (es : List Entry) → ((v : ℕ) → a ≤ v → v < b → (x : Pair) → In x (livePairs v es) → low ≤ x .key)
+    → lowOver low a b es ≡ true
 at-low low a b es h =
     all-by (λ (f : Entry). not (meets a b f) || leb low (f .key)) es
     (λ e i. to-meets a b e (leb low (e .key)) (λ m.
     let v : ℕ = max a (e .start) in
-    le-leb low (e .key) (h v (m .low) (omega (arith, m .room, m .high)) (pairOf e) (of-shows v es e i (record { from = m .from; upto = omega (arith, m .room, m .upto) })))))
+    le-leb low (e .key)
+    (h v (m .low) (omega (arith, m .room, m .high)) (pairOf e)
+    (of-shows v es e i (record { from = m .from; upto = omega (arith, m .room, m .upto) })))))
 
 -- ---- a key that stands throughout
 
@@ -222,7 +249,8 @@ key-at k a b v es h p q =
     (pairOf e, of-shows v es e j l, eqb-true (e .key) k s)
 
 -- entries with one key, one after another, leave no gap if each version has one of them alive
-no-gap : (a b : ℕ) (es : List Entry) → inOrder (λ (e f : Entry). leb (e .end) (f .start)) es ≡ true → ((e : Entry) → In e es → e .start < e .end)
+no-gap : (a b : ℕ) (es : List Entry) → inOrder (λ (e f : Entry). leb (e .end) (f .start)) es ≡ true
+    → ((e : Entry) → In e es → e .start < e .end)
     → ((v : ℕ) → a ≤ v → v < b → (e : Entry) × (In e es) × (Alive v e)) → b ≤ pastAll a es
 no-gap a b [] o some h = by (bool-cases (ltb a b))
   where
@@ -234,7 +262,8 @@ no-gap a b (e ∷ es) o some h =
     at (leb (e .start) a) refl oe (λ c low. no-gap c b es os (λ f i. some f (inr i)) low)
   where
     at : (t : Bool) → leb (e .start) a ≡ t → all (λ (f : Entry). leb (e .end) (f .start)) es ≡ true
-        → ((c : ℕ) → ((v : ℕ) → c ≤ v → v < b → (f : Entry) × (In f es) × (Alive v f)) → b ≤ pastAll c es) → b ≤ pastAll (pick t (max a (e .end)) a) es
+        → ((c : ℕ) → ((v : ℕ) → c ≤ v → v < b → (f : Entry) × (In f es) × (Alive v f)) → b ≤ pastAll c es)
+        → b ≤ pastAll (pick t (max a (e .end)) a) es
     at true x oe ih = ih (max a (e .end)) (λ v p q. other v p (h v (omega arith) q))
       where
         other : (v : ℕ) → max a (e .end) ≤ v → (f : Entry) × (In f (e ∷ es)) × (Alive v f) → (f : Entry) × (In f es) × (Alive v f)
@@ -247,33 +276,47 @@ no-gap a b (e ∷ es) o some h =
 
         none : (f : Entry) → In f (e ∷ es) → Alive a f → ⊥
         none f (inl z) l = omega (arith, late, l .from, ap (λ (g : Entry). g .start) z)
-        none f (inr z) l = omega (arith, late, l .from, some e (inl refl), leb-true (e .end) (f .start) (all-in (λ (g : Entry). leb (e .end) (g .start)) f es oe z))
+        none f (inr z) l =
+            omega (
+              arith,
+              late,
+              l .from,
+              some e (inl refl),
+              leb-true (e .end) (f .start) (all-in (λ (g : Entry). leb (e .end) (g .start)) f es oe z),
+            )
 
         by : (ltb a b ≡ true) ⊎ (ltb a b ≡ false) → b ≤ pastAll a es
         by (inl y) = let (f, i, l) = h a (omega arith) (ltb-true a b y) in absurd (none f i l)
         by (inr y) = omega (arith, ltb-false a b y, past-all-more a es)
 
-same-apart : (k : ℕ) (es : List Entry) → inOrder apart es ≡ true → inOrder (λ (e f : Entry). leb (e .end) (f .start)) (those (keyIs k) es) ≡ true
+same-apart : (k : ℕ) (es : List Entry) → inOrder apart es ≡ true
+    → inOrder (λ (e f : Entry). leb (e .end) (f .start)) (those (keyIs k) es) ≡ true
 same-apart k [] h = refl
 same-apart k (e ∷ es) h = let (he, hs) = both-true (all (apart e) es) (inOrder apart es) h in at (keyIs k e) refl he (same-apart k es hs)
   where
-    at : (b : Bool) → keyIs k e ≡ b → all (apart e) es ≡ true → inOrder (λ (e f : Entry). leb (e .end) (f .start)) (those (keyIs k) es) ≡ true
+    at : (b : Bool) → keyIs k e ≡ b → all (apart e) es ≡ true
+        → inOrder (λ (e f : Entry). leb (e .end) (f .start)) (those (keyIs k) es) ≡ true
         → inOrder (λ (e f : Entry). leb (e .end) (f .start)) (keep b e (those (keyIs k) es)) ≡ true
     at false x he ih = ih
     at true x he ih = both-intro _ _ (all-by _ (those (keyIs k) es) each) ih
       where
         each : (f : Entry) → In f (those (keyIs k) es) → leb (e .end) (f .start) ≡ true
-        each f i = by (either-true (not (eqb (e .key) (f .key))) (leb (e .end) (f .start)) (all-in (apart e) f es he (in-those (keyIs k) f es i .1)))
+        each f i =
+            by (either-true (not (eqb (e .key) (f .key))) (leb (e .end) (f .start))
+            (all-in (apart e) f es he (in-those (keyIs k) f es i .1)))
           where
             by : (not (eqb (e .key) (f .key)) ≡ true) ⊎ (leb (e .end) (f .start) ≡ true) → leb (e .end) (f .start) ≡ true
             by (inl y) =
-                absurd (not-both (eqb (e .key) (f .key)) (eq-eqb (e .key) (f .key) (eqb-true (e .key) k x ∙ sym (eqb-true (f .key) k (in-those (keyIs k) f es i .0)))) (not-true (eqb (e .key) (f .key)) y))
+                absurd (not-both (eqb (e .key) (f .key))
+                (eq-eqb (e .key) (f .key) (eqb-true (e .key) k x ∙ sym (eqb-true (f .key) k (in-those (keyIs k) f es i .0))))
+                (not-true (eqb (e .key) (f .key)) y))
             by (inr y) = y
 
 pub at-key : (k a b : ℕ) (es : List Entry) → inOrder apart es ≡ true → ((e : Entry) → In e es → e .start < e .end)
     → ((v : ℕ) → a ≤ v → v < b → (x : Pair) × (In x (livePairs v es)) × (x .key ≡ k)) → keyOver k a b es ≡ true
 at-key k a b es o some h =
-    le-leb b (pastAll a (those (keyIs k) es)) (no-gap a b (those (keyIs k) es) (same-apart k es o) (λ e i. some e (in-those (keyIs k) e es i .1)) found)
+    le-leb b (pastAll a (those (keyIs k) es))
+    (no-gap a b (those (keyIs k) es) (same-apart k es o) (λ e i. some e (in-those (keyIs k) e es i .1)) found)
   where
     found : (v : ℕ) → a ≤ v → v < b → (e : Entry) × (In e (those (keyIs k) es)) × (Alive v e)
     found v p q =
@@ -303,7 +346,8 @@ module _ (old : ℕ) where
   kept-shows v l [] = refl
   kept-shows v l (e ∷ es) = at (ltb old (e .end)) refl (kept-shows v l es)
     where
-      at : (b : Bool) → ltb old (e .end) ≡ b → livePairs v (kept old es) ≡ livePairs v es → livePairs v (keep b e (kept old es)) ≡ livePairs v (e ∷ es)
+      at : (b : Bool) → ltb old (e .end) ≡ b → livePairs v (kept old es) ≡ livePairs v es
+          → livePairs v (keep b e (kept old es)) ≡ livePairs v (e ∷ es)
       at true x ih = by (liveAt v e)
         where
           by : (c : Bool) → map pairOf (keep c e (those (liveAt v) (kept old es))) ≡ map pairOf (keep c e (those (liveAt v) es))
@@ -324,18 +368,22 @@ module _ (old : ℕ) where
 
   past-kept : (f : Entry → Bool) (a : ℕ) (es : List Entry) → old ≤ a → pastAll a (those f (kept old es)) ≡ pastAll a (those f es)
   past-kept f a [] l = refl
-  past-kept f a (e ∷ es) l = at (ltb old (e .end)) refl (f e) (past-kept f a es l) (past-kept f (past a e) es (omega (arith, past-more a e)))
+  past-kept f a (e ∷ es) l =
+      at (ltb old (e .end)) refl (f e) (past-kept f a es l) (past-kept f (past a e) es (omega (arith, past-more a e)))
     where
-      with-it : (c : Bool) → pastAll a (those f (kept old es)) ≡ pastAll a (those f es) → pastAll (past a e) (those f (kept old es)) ≡ pastAll (past a e) (those f es)
+      with-it : (c : Bool) → pastAll a (those f (kept old es)) ≡ pastAll a (those f es)
+          → pastAll (past a e) (those f (kept old es)) ≡ pastAll (past a e) (those f es)
           → pastAll a (keep c e (those f (kept old es))) ≡ pastAll a (keep c e (those f es))
       with-it true ih jh = jh
       with-it false ih jh = ih
 
-      without : (c : Bool) → past a e ≡ a → pastAll a (those f (kept old es)) ≡ pastAll a (those f es) → pastAll a (those f (kept old es)) ≡ pastAll a (keep c e (those f es))
+      without : (c : Bool) → past a e ≡ a → pastAll a (those f (kept old es)) ≡ pastAll a (those f es)
+          → pastAll a (those f (kept old es)) ≡ pastAll a (keep c e (those f es))
       without true z ih = ih ∙ ap (λ (b : ℕ). pastAll b (those f es)) (sym z)
       without false z ih = ih
 
-      at : (b : Bool) → ltb old (e .end) ≡ b → (c : Bool) → pastAll a (those f (kept old es)) ≡ pastAll a (those f es) → pastAll (past a e) (those f (kept old es)) ≡ pastAll (past a e) (those f es)
+      at : (b : Bool) → ltb old (e .end) ≡ b → (c : Bool) → pastAll a (those f (kept old es)) ≡ pastAll a (those f es)
+          → pastAll (past a e) (those f (kept old es)) ≡ pastAll (past a e) (those f es)
           → pastAll a (those f (keep b e (kept old es))) ≡ pastAll a (those f (e ∷ es))
       at true x c ih jh = with-it (f e) ih jh
       at false x c ih jh = without (f e) (past-out a e l (ltb-false old (e .end) x)) ih
@@ -352,7 +400,8 @@ count-more : (u v : ℕ) (es : List Entry) → ((e : Entry) → In e es → live
 count-more u v [] h = omega arith
 count-more u v (e ∷ es) h = at (liveAt u e) (liveAt v e) refl refl (count-more u v es (λ f i. h f (inr i)))
   where
-    at : (a b : Bool) → liveAt u e ≡ a → liveAt v e ≡ b → liveCount u es ≤ liveCount v es → length (keep a e (those (liveAt u) es)) ≤ length (keep b e (those (liveAt v) es))
+    at : (a b : Bool) → liveAt u e ≡ a → liveAt v e ≡ b → liveCount u es ≤ liveCount v es
+        → length (keep a e (those (liveAt u) es)) ≤ length (keep b e (those (liveAt v) es))
     at true true x y ih = omega arith
     at true false x y ih = absurd (not-both (liveAt v e) (h e (inl refl) x) y)
     at false true x y ih = omega arith
@@ -363,7 +412,8 @@ ends-at : (v : ℕ) (es : List Entry) → ((e : Entry) × (In e es) × (e .end �
 ends-at v [] = inr (λ e i q. i)
 ends-at v (e ∷ es) = at (bool-cases (eqb (e .end) v)) (ends-at v es)
   where
-    at : (eqb (e .end) v ≡ true) ⊎ (eqb (e .end) v ≡ false) → ((f : Entry) × (In f es) × (f .end ≡ v)) ⊎ ((f : Entry) → In f es → f .end ≡ v → ⊥)
+    at : (eqb (e .end) v ≡ true) ⊎ (eqb (e .end) v ≡ false)
+        → ((f : Entry) × (In f es) × (f .end ≡ v)) ⊎ ((f : Entry) → In f es → f .end ≡ v → ⊥)
         → ((f : Entry) × (In f (e ∷ es)) × (f .end ≡ v)) ⊎ ((f : Entry) → In f (e ∷ es) → f .end ≡ v → ⊥)
     at (inl x) r = inl (e, inl refl, eqb-true (e .end) v x)
     at (inr x) (inl (f, i, q)) = inl (f, inr i, q)
@@ -377,38 +427,50 @@ pub many-at : (m a b : ℕ) (es : List Entry) → manyOver m a b es ≡ true →
 many-at m a b es h v p q =
     let (here, ends) = both-true (leb m (liveCount a es)) _ h in
     let e : v ≡ a + (v - a) = omega arith in
-    let c : m ≤ liveCount v es = subst (λ (u : ℕ). m ≤ liveCount u es) (sym e) (go (leb-true m (liveCount a es) here) ends (v - a) (omega arith)) in
+    let c : m ≤ liveCount v es = subst (λ (u : ℕ). m ≤ liveCount u es) (sym e)
+    (go (leb-true m (liveCount a es) here) ends (v - a) (omega arith)) in
     omega (arith, count-pairs v es)
   where
     test : Entry → Bool
     test e = not (ltb a (e .end) && ltb (e .end) b) || leb m (liveCount (e .end) es)
 
     ended : all test es ≡ true → (u : ℕ) → a < u → u < b → (e : Entry) → In e es → e .end ≡ u → m ≤ liveCount u es
-    ended ends u l r e i z = at (either-true (not (ltb a (e .end) && ltb (e .end) b)) (leb m (liveCount (e .end) es)) (all-in test e es ends i))
+    ended ends u l r e i z =
+        at (either-true (not (ltb a (e .end) && ltb (e .end) b)) (leb m (liveCount (e .end) es)) (all-in test e es ends i))
       where
         at : (not (ltb a (e .end) && ltb (e .end) b) ≡ true) ⊎ (leb m (liveCount (e .end) es) ≡ true) → m ≤ liveCount u es
-        at (inl x) = absurd (not-both (ltb a (e .end) && ltb (e .end) b) (both-intro _ _ (lt-ltb a (e .end) (omega arith)) (lt-ltb (e .end) b (omega arith))) (not-true (ltb a (e .end) && ltb (e .end) b) x))
+        at (inl x) =
+            absurd (not-both (ltb a (e .end) && ltb (e .end) b)
+            (both-intro _ _ (lt-ltb a (e .end) (omega arith)) (lt-ltb (e .end) b (omega arith)))
+            (not-true (ltb a (e .end) && ltb (e .end) b) x))
         at (inr x) = subst (λ (w : ℕ). m ≤ liveCount w es) z (leb-true m (liveCount (e .end) es) x)
 
     go : m ≤ liveCount a es → all test es ≡ true → (k : ℕ) → a + k < b → m ≤ liveCount (a + k) es
     go here ends zero l = let z : a + 0 ≡ a = omega arith in rw z here
-    go here ends (suc k) l = let z : a + suc k ≡ suc (a + k) = omega arith in rw z (at (ends-at (suc (a + k)) es) (go here ends k (omega arith)))
+    go here ends (suc k) l =
+        let z : a + suc k ≡ suc (a + k) = omega arith in rw z (at (ends-at (suc (a + k)) es) (go here ends k (omega arith)))
       where
-        at : ((e : Entry) × (In e es) × (e .end ≡ suc (a + k))) ⊎ ((e : Entry) → In e es → e .end ≡ suc (a + k) → ⊥) → m ≤ liveCount (a + k) es → m ≤ liveCount (suc (a + k)) es
+        at : ((e : Entry) × (In e es) × (e .end ≡ suc (a + k))) ⊎ ((e : Entry) → In e es → e .end ≡ suc (a + k) → ⊥)
+            → m ≤ liveCount (a + k) es → m ≤ liveCount (suc (a + k)) es
         at (inl (e, i, x)) ih = ended ends (suc (a + k)) (omega arith) (omega arith) e i x
         at (inr none) ih = omega (arith, count-more (a + k) (suc (a + k)) es (λ e i y. stays e i (alive-of (a + k) e y)))
           where
             stays : (e : Entry) → In e es → Alive (a + k) e → liveAt (suc (a + k)) e ≡ true
-            stays e i w = let ne : e .end ≡ suc (a + k) → ⊥ = none e i in of-alive (suc (a + k)) e (record { from = omega (arith, w .from); upto = omega (arith, w .upto) })
+            stays e i w =
+                let ne : e .end ≡ suc (a + k) → ⊥ = none e i in
+                of-alive (suc (a + k)) e (record { from = omega (arith, w .from); upto = omega (arith, w .upto) })
 
 pub at-many : (m a b : ℕ) (es : List Entry) → a < b → ((v : ℕ) → a ≤ v → v < b → m ≤ length (livePairs v es)) → manyOver m a b es ≡ true
-at-many m a b es room h = both-intro _ _ (count a (omega arith) room) (all-by _ es (λ e i. each e (bool-cases (ltb a (e .end) && ltb (e .end) b))))
+at-many m a b es room h =
+    both-intro _ _ (count a (omega arith) room) (all-by _ es (λ e i. each e (bool-cases (ltb a (e .end) && ltb (e .end) b))))
   where
     count : (v : ℕ) → a ≤ v → v < b → leb m (liveCount v es) ≡ true
     count v p q = le-leb m (liveCount v es) (omega (arith, h v p q, count-pairs v es))
 
-    each : (e : Entry) → ((ltb a (e .end) && ltb (e .end) b) ≡ true) ⊎ ((ltb a (e .end) && ltb (e .end) b) ≡ false) → (not (ltb a (e .end) && ltb (e .end) b) || leb m (liveCount (e .end) es)) ≡ true
+    each : (e : Entry) → ((ltb a (e .end) && ltb (e .end) b) ≡ true) ⊎ ((ltb a (e .end) && ltb (e .end) b) ≡ false)
+        → (not (ltb a (e .end) && ltb (e .end) b) || leb m (liveCount (e .end) es)) ≡ true
     each e (inl x) =
         let (p, q) = both-true (ltb a (e .end)) (ltb (e .end) b) x in
-        either-right (not (ltb a (e .end) && ltb (e .end) b)) _ (count (e .end) (omega (arith, ltb-true a (e .end) p)) (ltb-true (e .end) b q))
+        either-right (not (ltb a (e .end) && ltb (e .end) b)) _
+        (count (e .end) (omega (arith, ltb-true a (e .end) p)) (ltb-true (e .end) b q))
     each e (inr x) = either-left (not (ltb a (e .end) && ltb (e .end) b)) _ (ap not x)

@@ -1,6 +1,6 @@
 -- The answers of the tests of length and name, case by case. Assumes nothing.
 use Prim.Native.Nat.{ℕ, _*_, _%_, _<_, _≤_}
-use mathlib.Core.Bool.{Bool, true, false, _&&_}
+use mathlib.Core.Bool.{Bool, true, false, and-false}
 use mathlib.Core.Path.{_≡_, refl, ap, sym, _∙_}
 use mathlib.Core.List.{List, [], _∷_}
 use native.Mathlib.Omega.{arith}
@@ -16,10 +16,6 @@ use Rattle.model.specs.Lent.{freshLent}
 use Rattle.store.proofs.laws.Tested.{list-true}
 
 -- ---- length
-
-and-false : (b : Bool) → (b && false) ≡ false
-and-false true = refl
-and-false false = refl
 
 module _ (least : ℕ) (s : List ℕ) where
   pub length-odd : (length s % (64 * least) ≡ 0 → ⊥) → lengthOk least s ≡ false

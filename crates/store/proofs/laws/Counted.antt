@@ -20,8 +20,8 @@ use Rattle.model.specs.Sound.{rule1}
 use Rattle.model.specs.Layout.{lives, liveIn, liveOf, pageOf, decodePage, decode, sizeOf}
 use Rattle.model.specs.Clean.{cleanFront, cleanPage, cleanPages, clean}
 use Rattle.model.specs.Counted.{countedPage, countedPages, rule8}
+use Rattle.model.specs.ByRule.{Sound}
 use Rattle.model.proofs.lists.Lists.{both-true}
-use Rattle.model.proofs.sound.ByRule.{Sound}
 use Rattle.model.proofs.sound.Judging.{Accepted, accepted-sound}
 use Rattle.model.proofs.sound.Counted.{those-last}
 use Rattle.page.proofs.laws.Exact.{live-none}

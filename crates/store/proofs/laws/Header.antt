@@ -16,6 +16,7 @@ use Rattle.model.specs.Basic.{pick}
 use Rattle.model.specs.Limits.{rootBits, oldestBits, editionOf}
 use Rattle.model.specs.Field.{field, Part, Bytes, lay, zeros, packed}
 use Rattle.model.specs.Layout.{bit, headerParts, headerBytes, readHeader}
+use Rattle.model.proofs.lists.Bools.{bit-back}
 use Rattle.page.proofs.laws.Editions.{RootWidth, root-bits, Aged, oldest-bits}
 use Rattle.store.proofs.laws.Read.{pages-lt, current-lt, roots-lt, oldest-lt}
 use Rattle.store.specs.Header.{namedBy, valueParts, putHeader, HeaderFits}
@@ -31,10 +32,6 @@ pub bit-small : (b : Bool) → bit b < 2 ^ 1
 bit-small true = omega arith
 bit-small false = omega arith
 
-bit-back : (b : Bool) → eqb (bit b) 1 ≡ b
-bit-back true = refl
-bit-back false = refl
-
 bit-field : (s : List ℕ) (at : ℕ) → bit (eqb (field s at 1) 1) ≡ field s at 1
 bit-field s at = go (field s at 1) (field-lt s at 1)
   where
@@ -43,7 +40,7 @@ bit-field s at = go (field s at 1) (field-lt s at 1)
     go (suc zero) h = refl
     go (suc (suc n)) h = absurd (omega arith)
 
-edition-small : (least : ℕ) → editionOf least < 2 ^ 8
+pub edition-small : (least : ℕ) → editionOf least < 2 ^ 8
 edition-small least = go (leb least 4)
   where
     go : (b : Bool) → pick b 1 2 < 2 ^ 8

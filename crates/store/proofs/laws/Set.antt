@@ -4,7 +4,8 @@ use mathlib.Core.Bool.{Bool}
 use mathlib.Core.Path.{_≡_, refl, ap, sym, _∙_}
 use mathlib.Core.List.{List, [], _∷_, _++_}
 use native.Mathlib.Omega.{arith}
-use lib.ListN.{length, getD, set, take, drop, length-append, length-drop, length-set}
+use lib.ListN.{length, getD, set, drop, length-append, length-drop, length-set}
+use lib.Seq.{take-set-le}
 use Rattle.model.specs.declared.Slot.{Slot}
 use Rattle.model.specs.declared.Header.{Header}
 use Rattle.model.specs.Field.{lay}
@@ -126,19 +127,13 @@ valid-set least (p ∷ ps) zero q v z (suc k) = v (suc k)
 valid-set least (p ∷ ps) (suc n) q v z zero = v 0
 valid-set least (p ∷ ps) (suc n) q v z (suc k) = valid-set least ps n q (λ j. v (suc j)) z k
 
-take-set : (ps : List Page) (m n : ℕ) (q : Page) → m ≤ n → take m (set ps n q) ≡ take m ps
-take-set ps zero n q h = refl
-take-set [] (suc m) n q h = refl
-take-set (p ∷ ps) (suc m) zero q h = absurd (omega arith)
-take-set (p ∷ ps) (suc m) (suc n) q h = ap (λ (l : List Page). p ∷ l) (take-set ps m n q (omega arith))
-
 module _ (least : ℕ) (s : Store) (v : Holds least s) where
   pub holds-page : (n : ℕ) (q : Page) → 5 ≤ n → Valid least q → Holds least (withPages s (set (s .pages) n q))
   holds-page n q h z =
       record {
         five = omega (arith, length-set (s .pages) n q, v .five);
         most = omega (arith, length-set (s .pages) n q, v .most);
-        front = take-set (s .pages) 5 n q h ∙ v .front;
+        front = take-set-le 5 (s .pages) n q h ∙ v .front;
         current = v .current;
         oldest = v .oldest;
         few = v .few;

@@ -16,8 +16,8 @@ use Rattle.model.specs.Layout.{readHeader, decode, encode, sizeOf}
 use Rattle.model.specs.Sound.{rule1}
 use Rattle.model.specs.Clean.{cleanPages, cleanFront, clean}
 use Rattle.model.specs.Judged.{judged, isSound}
+use Rattle.model.specs.ByRule.{Sound}
 use Rattle.model.proofs.lists.Lists.{both-true}
-use Rattle.model.proofs.sound.ByRule.{Sound}
 use Rattle.model.proofs.sound.Judging.{Accepted, accepted, accepted-sound}
 use Rattle.store.proofs.laws.Read.{slots-of, length-slots}
 use Rattle.store.proofs.laws.Parts.{page-fits}

@@ -25,9 +25,6 @@ use Rattle.tabled.specs.Across.{under, rightFrom}
 pub and-on : (a c : Bool) → a ≡ true → (a && c) ≡ c
 and-on a c e = rw e
 
-pub and-off : (a c : Bool) → a ≡ false → (a && c) ≡ false
-and-off a c e = rw e
-
 module _ (least : ℕ) (b : List ℕ) (v hi : ℕ) where
   abbrev ps : List Page
   ps = decode least b .pages

@@ -18,9 +18,9 @@ use Rattle.model.specs.Sound.{spanOk, entryOk, pageOk}
 use Rattle.model.specs.Walk.{followed, rangeBelow}
 use Rattle.model.specs.Layout.{pageOf, decode}
 use Rattle.model.specs.Clean.{cleanPage}
-use Rattle.model.proofs.lists.Lists.{both-true, all-cons}
+use Rattle.model.proofs.lists.Lists.{both-true, all-cons, few-those}
 use Rattle.model.specs.Near.{pageRight, rangeRight}
-use Rattle.walk.proofs.laws.Bound.{length-those, length-followed, most, most-rises}
+use Rattle.walk.proofs.laws.Bound.{length-followed, most, most-rises}
 use Rattle.tabled.proofs.laws.Here.{page-of, all-of}
 
 pub flat-most : (f : Pair → Bool) (g : Pair → List Pair) (m : ℕ) → ((x : Pair) → f x ≡ true → length (g x) ≤ m) → (xs : List Pair)
@@ -60,7 +60,7 @@ module _ (least : ℕ) (b : List ℕ) (eight : least ≤ 8) where
       omega (
         arith,
         length-map (those (liveAt v) (page ps n .entries)) pairOf,
-        length-those (liveAt v) (page ps n .entries),
+        few-those (liveAt v) (page ps n .entries),
         parts level n e .1,
       )
 
@@ -69,7 +69,7 @@ module _ (least : ℕ) (b : List ℕ) (eight : least ≤ 8) where
   below-most zero v lo hi at n c =
       omega (
         arith,
-        length-those (λ (x : Pair). leb lo (x .key) && leb (x .key) hi) (pairsAt v (page ps n)),
+        few-those (λ (x : Pair). leb lo (x .key) && leb (x .key) hi) (pairsAt v (page ps n)),
         few-pairs v 1 n (page-of least b v hi at n zero c),
       )
   below-most (suc up) v lo hi at n c =

@@ -16,13 +16,14 @@ use Rattle.model.specs.Entry.{pairOf, liveAt}
 use Rattle.model.specs.Walk.{between, rangeBelow}
 use Rattle.model.specs.Layout.{pageOf, decode}
 use Rattle.model.proofs.lists.Members.{bool-cases}
+use Rattle.model.proofs.lists.Lists.{few-those}
 use Rattle.page.proofs.laws.Read.{length-entries}
 use Rattle.local.specs.Local.{Sized, countAt}
 use Rattle.model.specs.Near.{pageRight, rangeRight}
 use Rattle.walk.specs.Live.{live}
 use Rattle.walk.specs.Scan.{from}
 use Rattle.walk.specs.Below.{through, later}
-use Rattle.walk.proofs.laws.Bound.{length-those, most, most-rises}
+use Rattle.walk.proofs.laws.Bound.{most, most-rises}
 use Rattle.tabled.specs.Across.{under, rightFrom}
 use Rattle.tabled.proofs.laws.Across.{across-wrong}
 use Rattle.tabled.proofs.laws.Bound.{flat-most, parts, below-most, right-few}
@@ -61,9 +62,9 @@ module _ (least : ℕ) (b : List ℕ) (eight : least ≤ 8) (v lo hi : ℕ) wher
       let m : length xs ≤ 40
       = omega (
         arith,
-        length-those (λ (x : Pair). leb 0 (x .key) && leb (x .key) hi) (live v es),
+        few-those (λ (x : Pair). leb 0 (x .key) && leb (x .key) hi) (live v es),
         length-map (those (liveAt v) es) pairOf,
-        length-those (liveAt v) es,
+        few-those (liveAt v) es,
         length-from p i n,
       ) in
       let q : length xs * most up ≤ 40 * most up = mul-le-mul-right (most up) m in

@@ -17,6 +17,7 @@ use Rattle.model.specs.Store.{page}
 use Rattle.model.specs.Walk.{between, rangeBelow}
 use Rattle.model.specs.Layout.{decode}
 use Rattle.model.specs.Near.{pageRight, startsBy, rangeRight}
+use Rattle.model.proofs.lists.Bools.{fails-right}
 use Rattle.walk.specs.declared.search.Own.{Own}
 use Rattle.walk.specs.Live.{live}
 use Rattle.walk.proofs.laws.Live.{live-on, live-off}
@@ -76,11 +77,7 @@ module _ (least : ℕ) (b : List ℕ) (v lo hi : ℕ) where
         at false c d q = refl
 
     pub turn-high : hi < e .key → turn least b v lo hi up e ≡ 1
-    turn-high h = turn-not up e (at (liveAt v e) (leb (e .key) hi) (lt-leb (e .key) hi h))
-      where
-        at : (a c : Bool) → c ≡ false → (a && c) ≡ false
-        at true c q = q
-        at false c q = refl
+    turn-high h = turn-not up e (fails-right (liveAt v e) (leb (e .key) hi) (lt-leb (e .key) hi h))
 
     pub turn-on : e .start ≤ v → v < e .end → e .key ≤ hi → turn least b v lo hi up e ≡ found least b v lo hi up (e .key) (e .value)
     turn-on a c h = turn-so up e (rw (le-leb (e .start) v a, lt-ltb v (e .end) c, le-leb (e .key) hi h))

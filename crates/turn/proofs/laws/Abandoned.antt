@@ -1,9 +1,9 @@
 -- An abandon's last step: with every page as it was, the open version's slot and the flag go.
 -- Assumes nothing.
-use Prim.Native.Nat.{ℕ, zero, suc, _+_, _*_, _-_, _^_, _≤_, _<_}
+use Prim.Native.Nat.{ℕ, _+_, _*_, _-_, _^_, _≤_, _<_}
 use native.Mathlib.Omega.{arith}
 use mathlib.Core.Bool.{Bool, true, false}
-use mathlib.Core.Path.{_≡_, refl, ap, sym, _∙_, subst}
+use mathlib.Core.Path.{_≡_, ap, sym, _∙_, subst}
 use mathlib.Core.Logic.{_⊎_, inl, inr}
 use mathlib.Core.List.{List, [], _∷_, _++_, map}
 use lib.Dec.{leb, ltb, eqb}
@@ -21,9 +21,10 @@ use Rattle.model.specs.Field.{lay}
 use Rattle.model.specs.Header.{withFlag, withRoots}
 use Rattle.model.specs.Layout.{noSlot, headerOf, readHeader, readSlot, encode, decode}
 use Rattle.model.specs.Judged.{isSound}
-use Rattle.model.specs.Sound.{firstVersion}
 use Rattle.model.specs.Calls.{back, abandoned}
 use Rattle.model.proofs.lists.Members.{all-at, bool-cases}
+use Rattle.model.proofs.lists.Lists.{take-map}
+use Rattle.model.proofs.sound.ByRule.{some-slot}
 use Rattle.page.specs.Exact.{Valid}
 use Rattle.store.specs.Slots.{slotParts}
 use Rattle.store.specs.Header.{putHeader}
@@ -39,11 +40,6 @@ use Rattle.turn.proofs.laws.Slotted.{last-apart, other, last-goes, last
 use Rattle.turn.specs.Turned.{HeadedBytes}
 use Rattle.turn.proofs.laws.Turned.{dropped}
 
-take-map : {A B : Type 0} (f : A → B) (n : ℕ) (xs : List A) → take n (map f xs) ≡ map f (take n xs)
-take-map f zero xs = refl
-take-map f (suc n) [] = refl
-take-map f (suc n) (x ∷ xs) = ap (λ (ys : List _). f x ∷ ys) (take-map f n xs)
-
 -- a store whose pages came back can be held
 pub back-holds : (least w : ℕ) (s : Store) → 0 < w → w < 2 ^ 20 → Holds least s → Holds least (withPages s (map (back w) (s .pages)))
 back-holds least w s p q h = record {
@@ -58,10 +54,6 @@ back-holds least w s p q h = record {
       (sym (List·getD-map (back w) (s .pages) k free) ∙ ap (λ (x : Page). getD (map (back w) (s .pages)) k x) (free-back w p))
       (valid-back least w _ q (h .pages k));
 }
-
-some-slot : (old : ℕ) (xs : List Slot) → firstVersion old xs ≤ old → 0 < length xs
-some-slot old [] e = absurd (omega arith)
-some-slot old (x ∷ xs) e = omega arith
 
 module _ {l : Limits} (d : Edition l) (b : List ℕ) (h : isSound (l .least) b ≡ true) (k : HeadedBytes (l .least) b) where
   roots-are : readHeader (l .least) b .roots ≡ length (decode (l .least) b .slots)

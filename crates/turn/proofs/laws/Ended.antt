@@ -16,9 +16,10 @@ use Rattle.model.specs.Store.{Store, page, lastOf, last}
 use Rattle.model.specs.Sound.{entryOk, liesWell}
 use Rattle.model.specs.Layout.{decodePage}
 use Rattle.model.specs.Calls.{back}
+use Rattle.model.specs.ByRule.{Sound}
 use Rattle.model.proofs.lists.Lists.{both-true}
 use Rattle.model.proofs.lists.Members.{bool-cases}
-use Rattle.model.proofs.sound.ByRule.{Sound, GoodEntry, entry-ok, span-of}
+use Rattle.model.proofs.sound.ByRule.{GoodEntry, entry-ok, span-of}
 use Rattle.page.specs.Head.{readHead}
 use Rattle.turn.proofs.laws.Partly.{free-back}
 use Rattle.turn.proofs.laws.Touched.{Still, still-more, still-page}

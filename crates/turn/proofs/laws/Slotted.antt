@@ -12,8 +12,9 @@ use borrow.Author.Tests.{ltb-true, eq-eqb, ne-eqb}
 use Rattle.model.specs.Basic.{all, those, inOrder}
 use Rattle.model.specs.declared.Slot.{Slot}
 use Rattle.model.specs.Layout.{noSlot}
+use Rattle.model.specs.Inner.{In}
 use Rattle.model.proofs.lists.Lists.{both-true}
-use Rattle.model.proofs.lists.Members.{In, all-in, all-by, in-right}
+use Rattle.model.proofs.lists.Members.{all-in, all-by, in-right}
 use Rattle.model.proofs.tree.Local.{those-append, those-all}
 
 -- a list with its last

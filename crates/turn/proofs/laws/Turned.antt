@@ -9,12 +9,13 @@ use Rattle.model.specs.declared.Slot.{Slot}
 use Rattle.model.specs.declared.Header.{Header}
 use Rattle.model.specs.declared.Limits.{Limits}
 use Rattle.model.specs.Limits.{Edition}
-use Rattle.model.specs.Store.{Store, next, lastOf}
+use Rattle.model.specs.Store.{Store, next}
 use Rattle.model.specs.Field.{lay, Bytes}
 use Rattle.model.specs.Layout.{noSlot, headerOf, readHeader, sizeOf, encode, decode}
 use Rattle.model.specs.Header.{withFlag, withVersion}
 use Rattle.model.specs.Judged.{isSound}
 use Rattle.model.specs.Calls.{committed}
+use Rattle.model.proofs.sound.ByRule.{upto-last}
 use Rattle.page.proofs.laws.Editions.{root-bits}
 use Rattle.store.proofs.laws.Read.{current-of}
 use Rattle.store.proofs.laws.Exactly.{header-of}
@@ -71,10 +72,6 @@ dropped least four eight s v xs x e =
 
 -- ---- a sound store's bytes
 
-current-last : (o : Bool) (n : ℕ) → n ≤ lastOf o n
-current-last true n = omega arith
-current-last false n = omega arith
-
 module _ {l : Limits} (d : Edition l) (b : List ℕ) (h : isSound (l .least) b ≡ true) where
   pub kept : Bytes b → HeadedBytes (l .least) b
   kept y =
@@ -87,4 +84,4 @@ module _ {l : Limits} (d : Edition l) (b : List ℕ) (h : isSound (l .least) b �
   pub next-low : readHeader (l .least) b .current + 1 < 2 ^ 20
   next-low =
       let s : Store = decode (l .least) b in
-      omega (arith, current-last (s .opened) (s .current), sure d b h .last-low, current-of (l .least) b)
+      omega (arith, upto-last (s .opened) (s .current), sure d b h .last-low, current-of (l .least) b)

@@ -3,10 +3,11 @@ use native.Mathlib.Omega.{arith}
 use mathlib.Core.Bool.{true, false}
 use mathlib.Core.Path.{sym, _∙_}
 use Rattle.parts.specs.Kept.{pagesOf}
-use Rattle.update.proofs.laws.Foreseen.{free-few, keeps-number, lacks-number, moves-number}
+use Rattle.update.proofs.laws.Foreseen.{keeps-number, lacks-number, moves-number}
 use borrow.Author.Needs.{needs}
 use Rattle.update.proofs.foresee.Statement.{statement}
 use Rattle.update.proofs.foresee.Tie as tie
+use Rattle.model.proofs.needs.Sizes.{frees-few}
 
 count-free-requires : tie.Need-count-free-requires
 count-free-requires c κs = search needs
@@ -15,7 +16,7 @@ plan-up-requires : tie.Need-plan-up-requires
 plan-up-requires c κs =
     let at-start = c .before .before in
     let p = at-start .pre in
-    (p .0, p .1, p .2, omega (arith, c .count-free .ensures, free-few (pagesOf (at-start .args .l) (at-start .args .s .now)), p .0 .most))
+    (p .0, p .1, p .2, omega (arith, c .count-free .ensures, frees-few (pagesOf (at-start .args .l) (at-start .args .s .now)), p .0 .most))
 
 enum-told : tie.Need-enum-told
 enum-told c = search needs

@@ -15,8 +15,8 @@ use Rattle.model.specs.Climb.{Result, update}
 use Rattle.model.specs.Calls.{isSome, rawInsert, delete}
 use Rattle.model.specs.Needs.{inserting, deleting}
 use Rattle.model.specs.Lent.{left}
-use Rattle.model.proofs.sound.Ready.{is-none}
 use Rattle.model.proofs.kept.Preserve.{Sounds, raw-keeps, delete-keeps}
+use Rattle.model.proofs.lists.Bools.{is-none}
 use Rattle.store.proofs.laws.Sure.{sure}
 use Rattle.update.specs.Whole.{LeavesSound}
 use Rattle.update.specs.Single.{Enters, Ends}

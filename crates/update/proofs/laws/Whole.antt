@@ -16,7 +16,8 @@ use Rattle.model.specs.Climb.{climb, refused, rooted, update}
 use Rattle.model.specs.Needs.{slotLeft}
 use Rattle.outlook.specs.Plan.{planUp, outlookNumber, outlook, plan}
 use Rattle.model.specs.Lent.{left}
-use Rattle.model.proofs.sound.ByRule.{Sound, old-current}
+use Rattle.model.specs.ByRule.{Sound}
+use Rattle.model.proofs.sound.ByRule.{old-current}
 use Rattle.model.proofs.sound.Ready.{ready}
 use Rattle.outlook.proofs.laws.PlanSound.{plan-refused, plan-done}
 use Rattle.store.proofs.laws.Sure.{sure}

@@ -10,12 +10,13 @@ use Rattle.model.specs.declared.Pair.{Pair}
 use Rattle.model.specs.Page.{Page, pairsAt}
 use Rattle.model.specs.Store.{Store, page}
 use Rattle.model.specs.Walk.{around, rootAt, heightOf, settings, keyLimit}
-use Rattle.model.proofs.lists.Members.{In}
-use Rattle.model.proofs.tree.Tree.{Says, Row, Tree}
+use Rattle.model.proofs.tree.Tree.{Tree}
 use Rattle.model.proofs.tree.Descend.{found-in}
-use Rattle.model.proofs.sound.ByRule.{Readable, Sound}
 use Rattle.model.proofs.sound.Ready.{holds-all, root-level}
 use Rattle.model.specs.Near.{startsBy}
+use Rattle.model.specs.Inner.{In}
+use Rattle.model.specs.Tree.{Says, Row}
+use Rattle.model.specs.ByRule.{Readable, Sound}
 use Rattle.walk.specs.Covers.{Covers}
 
 -- the first router of a row has its low key

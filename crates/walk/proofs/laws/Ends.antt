@@ -6,23 +6,17 @@ use mathlib.Core.Option.{Option, none, some}
 use mathlib.Core.Path.{_≡_, refl, ap, sym, _∙_}
 use mathlib.Core.List.{List, [], _∷_}
 use lib.Dec.{leb, ltb}
-use borrow.Author.Tests.{ltb-true, leb-true, lt-leb, le-leb, ne-eqb}
+use borrow.Author.Tests.{ltb-true, leb-true, lt-leb, le-leb}
 use Rattle.model.specs.Basic.{keep, pick}
 use Rattle.model.specs.declared.Pair.{Pair}
 use Rattle.model.specs.Entry.{pair}
-use Rattle.model.specs.Walk.{find, between, Around, aroundFrom, around, followFrom, followed}
+use Rattle.model.specs.Walk.{between, Around, aroundFrom, around, followFrom, followed}
 use Rattle.model.specs.Near.{startsBy}
 use Rattle.model.proofs.lists.Lists.{all-cons}
 use Rattle.walk.proofs.laws.Live.{above}
 use Rattle.walk.specs.Ends.{upto}
 
 -- ---- a key
-
-pub find-above : (k : ℕ) (xs : List Pair) → above k xs ≡ true → find k xs ≡ none
-find-above k [] h = refl
-find-above k (x ∷ xs) h =
-    let (a, b) = all-cons (λ (y : Pair). ltb k (y .key)) x xs h in
-    rw (ne-eqb (x .key) k (λ (e : x .key ≡ k). omega (arith, ltb-true k (x .key) a))) (find-above k xs b)
 
 -- ---- a range of keys
 

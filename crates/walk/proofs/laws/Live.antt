@@ -11,8 +11,9 @@ use Rattle.model.specs.Basic.{all, those, inOrder}
 use Rattle.model.specs.declared.Pair.{Pair}
 use Rattle.model.specs.declared.Entry.{Entry}
 use Rattle.model.specs.Entry.{pairOf, liveAt, before}
+use Rattle.model.specs.Inner.{In}
 use Rattle.model.proofs.lists.Lists.{both-true}
-use Rattle.model.proofs.lists.Members.{In, all-in, all-by, either-true, in-map, in-those}
+use Rattle.model.proofs.lists.Members.{all-in, all-by, either-true, in-map, in-those}
 use Rattle.walk.specs.Live.{live}
 
 -- each key is above k

@@ -12,12 +12,12 @@ use Rattle.model.specs.Entry.{liveAt, before}
 use Rattle.model.specs.Walk.{between}
 use Rattle.model.specs.Field.{field}
 use Rattle.model.specs.Layout.{readEntry, readEntries}
-use Rattle.model.proofs.lists.Members.{In}
 use Rattle.bits.proofs.laws.Laws.{field-split, field-lt}
 use Rattle.bits.proofs.laws.Put.{less}
 use Rattle.walk.specs.Live.{live}
 use Rattle.walk.proofs.laws.Live.{later}
 use Rattle.model.specs.Near.{startsBy}
+use Rattle.model.specs.Inner.{In}
 use Rattle.walk.specs.Scan.{entry, from, Owns}
 use Rattle.walk.proofs.laws.Scan.{from-step, order-from, next-passed, Owning, owning-start, owning-on, owning-off, owning-above}
 use Rattle.walk.proofs.laws.Scan.{owning-end}

@@ -3,26 +3,17 @@ use Prim.Native.Nat.{ℕ, suc, _+_, _*_, _^_, _≤_}
 use native.Mathlib.Omega.{arith}
 use mathlib.Core.Bool.{Bool, true, false}
 use mathlib.Core.Path.{_≡_, refl, ap, sym, _∙_}
-use mathlib.Core.List.{List, [], _∷_, _++_, append-assoc}
+use mathlib.Core.List.{List, [], _∷_, _++_}
 use lib.ListN.{length, set, drop, length-append}
 use lib.Seq.{sets, length-sets, sets-eq}
-use Rattle.model.specs.Basic.{flatMap}
 use Rattle.model.specs.declared.Pair.{Pair}
 use Rattle.model.specs.Calls.{pairNumbers}
+use Rattle.model.proofs.lists.Lists.{flat-append, sets-append}
 use Rattle.walk.specs.Written.{numbers, written, PairSpace, PairGathers}
 
 pub length-numbers : (xs : List Pair) → length (numbers xs) ≡ 2 * length xs
 length-numbers [] = refl
 length-numbers (x ∷ xs) = omega (arith, length-numbers xs)
-
-flat-append : {A B : Type 0} (f : A → List B) (xs ys : List A) → flatMap f (xs ++ ys) ≡ flatMap f xs ++ flatMap f ys
-flat-append f [] ys = refl
-flat-append f (x ∷ xs) ys = ap (λ (zs : List _). f x ++ zs) (flat-append f xs ys) ∙ sym (append-assoc (f x) (flatMap f xs) (flatMap f ys))
-
-sets-append : (ns : List ℕ) (i : ℕ) (us vs : List ℕ) → sets ns i (us ++ vs) ≡ sets (sets ns i us) (i + length us) vs
-sets-append ns i [] vs = let e : i + 0 ≡ i = omega arith in rw e
-sets-append ns i (u ∷ us) vs =
-    let e : i + suc (length us) ≡ suc i + length us = omega arith in rw e (sets-append (set ns i u) (suc i) us vs)
 
 pub written-none : (w : Bool) (ns : List ℕ) (k : ℕ) → written w ns k [] ≡ ns
 unfolding written

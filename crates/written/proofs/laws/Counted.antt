@@ -16,8 +16,8 @@ use Rattle.model.specs.Page.{Page, isFree}
 use Rattle.model.specs.Store.{Store, page, last}
 use Rattle.model.specs.Layout.{lives, liveIn, liveOf, pageOf, encodePage, decodePage, encode, sizeOf}
 use Rattle.model.specs.Counted.{countedPage, countedPages, rule8}
+use Rattle.model.specs.ByRule.{Sound}
 use Rattle.model.proofs.lists.Lists.{both-intro}
-use Rattle.model.proofs.sound.ByRule.{Sound}
 use Rattle.model.proofs.sound.Counted.{those-last}
 use Rattle.page.proofs.laws.Exact.{decode-encode, encode-live}
 use Rattle.store.specs.Holds.{Holds}

@@ -1,50 +1,38 @@
 -- The bytes of a sound store are accepted, are bytes, and hold it.
 -- Assumes nothing.
-use Prim.Native.Nat.{ℕ, zero, suc, _*_, _%_, _^_, _≤_, _<_}
+use Prim.Native.Nat.{ℕ, zero, suc, _*_, _%_, _≤_, _<_}
 use native.Mathlib.Omega.{arith}
 use native.Mathlib.Nat.{mul-mod-left, mul-le-mul-right}
 use mathlib.Core.Bool.{Bool, true, false, _&&_}
 use mathlib.Core.Path.{_≡_, refl, ap, sym, _∙_}
 use mathlib.Core.List.{List, [], append-assoc}
-use lib.Dec.{leb}
 use lib.ListN.{length, getD, take}
 use lib.Seq.{ext-getD, getD-take, length-take-le}
 use borrow.Author.Tests.{le-leb, eq-eqb}
 use Rattle.bits.proofs.laws.Laws.{field-byte}
 use Rattle.bits.proofs.laws.Append.{field-left}
 use Rattle.bits.proofs.laws.Lay.{Shows, packed-shows}
-use Rattle.model.specs.Basic.{pick, eqList}
-use Rattle.model.specs.Limits.{editionOf}
+use Rattle.model.specs.Basic.{eqList}
 use Rattle.model.specs.Field.{field, Bytes}
 use Rattle.model.specs.Page.{Page}
 use Rattle.model.specs.Store.{Store, page}
-use Rattle.model.specs.Layout.{bit, magic, headerParts, headerBytes, headerOf, sizeOf, encode, decode}
+use Rattle.model.specs.Layout.{magic, headerParts, headerBytes, headerOf, sizeOf, encode, decode}
 use Rattle.model.specs.Clean.{clean}
 use Rattle.model.specs.Sound.{sound, rule1, rule2, rule3, rule4, rule5, rule6, rule7}
 use Rattle.model.specs.declared.Verdict.{Verdict}
 use Rattle.model.specs.Judged.{lengthOk, magicOk, editionOk, judged}
+use Rattle.model.specs.ByRule.{Sound}
 use Rattle.model.proofs.lists.Lists.{both-intro}
-use Rattle.model.proofs.sound.ByRule.{Sound, to-tests}
+use Rattle.model.proofs.sound.ByRule.{to-tests}
 use Rattle.model.proofs.sound.Judging.{Accepted, judged-accepted}
 use Rattle.page.proofs.laws.Editions.{root-bits, oldest-bits}
-use Rattle.store.proofs.laws.Header.{header-length}
+use Rattle.store.proofs.laws.Header.{header-length, edition-small, bit-small}
 use Rattle.store.proofs.laws.Exactly.{encode-is}
 use Rattle.store.specs.Holds.{Holds}
 use Rattle.store.proofs.laws.Holds.{header-holds, encoded-length, decode-encoded}
 use Rattle.written.proofs.laws.Holding.{holds}
 use Rattle.written.proofs.laws.Counted.{all-counted}
 use Rattle.written.proofs.laws.Spare.{front-clean, all-clean, encoded-size, encoded-bytes, total-is}
-
-edition-small : (least : ℕ) → editionOf least < 2 ^ 8
-edition-small least = go (leb least 4)
-  where
-    go : (b : Bool) → pick b 1 2 < 2 ^ 8
-    go true = omega arith
-    go false = omega arith
-
-bit-small : (b : Bool) → bit b < 2 ^ 1
-bit-small true = omega arith
-bit-small false = omega arith
 
 module _ (least : ℕ) (four : 4 ≤ least) (eight : least ≤ 8) (s : Store) (v : Holds least s) where
   abbrev b : List ℕ

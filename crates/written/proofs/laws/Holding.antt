@@ -17,9 +17,10 @@ use Rattle.model.specs.Page.{Page, free, isFree}
 use Rattle.model.specs.Store.{Store, page, last, lastOf}
 use Rattle.model.specs.Sound.{isPage}
 use Rattle.model.specs.Layout.{unused, noSlot}
+use Rattle.model.specs.ByRule.{Sound}
 use Rattle.model.proofs.lists.Lists.{both-true}
 use Rattle.model.proofs.lists.Members.{all-at, in-getD, bool-cases}
-use Rattle.model.proofs.sound.ByRule.{Sound, Span, span-of, GoodEntry, entry-of}
+use Rattle.model.proofs.sound.ByRule.{Span, span-of, GoodEntry, entry-of}
 use Rattle.page.specs.Read.{FieldsFit}
 use Rattle.page.proofs.laws.Read.{sized-unused}
 use Rattle.page.specs.Exact.{Valid}

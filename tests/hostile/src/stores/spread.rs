@@ -49,56 +49,57 @@ pub const WIDER: Spread = Spread {
     ..PLAIN
 };
 
-/// The stores of the table, with what they are.
-pub fn rows() -> Vec<(&'static str, Spread)> {
-    let (wide, keys) = (681, Keys::Any);
-    let (crowd, same) = (4_083, Keys::Same);
+/// A store of the table: what it is, and its numbers.
+pub type Row = (&'static str, Spread);
+
+/// The stores of the table.
+pub fn rows() -> Vec<Row> {
+    [first_rows(), second_rows()].concat()
+}
+
+/// Those of edition 1.
+fn first_rows() -> Vec<Row> {
+    let same = Spread {
+        keys: Keys::Same,
+        ..PLAIN
+    };
+    let wide = Spread { wide: 681, ..PLAIN };
+    let any = Spread {
+        keys: Keys::Any,
+        ..wide
+    };
+    let crowd = 4_083;
     vec![
         ("one page a level, root at 3", Spread { depth: 3, ..PLAIN }),
         ("one page a level, root at 5", Spread { depth: 5, ..PLAIN }),
         ("one page a level, root at 7", PLAIN),
-        (
-            "the same keys on each level",
-            Spread {
-                keys: same,
-                ..PLAIN
-            },
-        ),
-        ("681 pages a level", Spread { wide, ..PLAIN }),
-        (
-            "681 pages a level, any keys",
-            Spread {
-                wide,
-                keys,
-                ..PLAIN
-            },
-        ),
+        ("the same keys on each level", same),
+        ("681 pages a level", wide),
+        ("681 pages a level, any keys", any),
         ("4,083 more of level 7", Spread { crowd, ..PLAIN }),
         (
             "4,083 more of level 7, the same keys",
-            Spread {
-                crowd,
-                keys: same,
-                ..PLAIN
-            },
+            Spread { crowd, ..same },
         ),
+    ]
+}
+
+/// Those of edition 2.
+fn second_rows() -> Vec<Row> {
+    let any = Spread {
+        wide: 681,
+        keys: Keys::Any,
+        ..WIDER
+    };
+    let same = Spread {
+        crowd: 4_083,
+        keys: Keys::Same,
+        ..WIDER
+    };
+    vec![
         ("edition 2, one page a level", WIDER),
-        (
-            "edition 2, 681 pages a level, any keys",
-            Spread {
-                wide,
-                keys,
-                ..WIDER
-            },
-        ),
-        (
-            "edition 2, 4,083 more of level 7, the same keys",
-            Spread {
-                crowd,
-                keys: same,
-                ..WIDER
-            },
-        ),
+        ("edition 2, 681 pages a level, any keys", any),
+        ("edition 2, 4,083 more of level 7, the same keys", same),
     ]
 }
 

@@ -6,7 +6,7 @@
 
 use std::collections::BTreeMap;
 
-use reference::layout::{Entry, Span, ALIVE, LEAF};
+use reference::layout::{Span, ALIVE, LEAF};
 use reference::rng::Rng;
 
 use super::entry;
@@ -31,55 +31,78 @@ pub struct Web {
     pub astray: u32,
 }
 
+impl Web {
+    /// The versions at which the root stands, enough for the last entry's life.
+    fn whole(self) -> Span {
+        let end = 2 + self.life + self.stagger * self.fan * self.depth;
+        Span { start: 1, end }
+    }
+
+    /// When an entry lives, by its place in a page of that level.
+    fn span(self, level: u32, place: u32) -> Span {
+        let whole = self.whole();
+        if place < self.staying {
+            return whole;
+        }
+        let late = self.stagger * (place + self.fan * (self.depth - level));
+        let start = whole.start + late;
+        let end = whole.end.min(start + self.life);
+        Span { start, end }
+    }
+}
+
 /// The low keys of two pages of a level lie this far apart.
 const APART: u32 = 32;
+
+/// The pages of a level, each by its place among them.
+type Row = BTreeMap<u32, u32>;
 
 pub fn web(numbers: Web) -> Option<Vec<u8>> {
     let mut sketch = Sketch::new();
     let mut rng = Rng::new(numbers.seed.into());
-    let last = 2 + numbers.life + numbers.stagger * numbers.fan * numbers.depth;
-    let whole = Span {
-        start: 1,
-        end: last,
-    };
+    let whole = numbers.whole();
     sketch.nothing_from(0);
     let root = sketch.page(numbers.depth, Vec::new());
     sketch.root(whole.start, root);
     sketch.nothing_from(whole.end);
-    let mut row = BTreeMap::from([(0, root)]);
+    let mut row = Row::from([(0, root)]);
     for level in (LEAF..=numbers.depth).rev() {
-        let mut below = BTreeMap::new();
-        for (own, page) in row {
-            let fewest = numbers.staying.min(numbers.fan);
-            let mut orders = Vec::new();
-            for place in 0..rng.between(fewest, numbers.fan) {
-                let late = numbers.stagger * (place + numbers.fan * (numbers.depth - level));
-                let start = whole.start + late;
-                let span = match place < numbers.staying {
-                    true => whole,
-                    false => Span {
-                        start,
-                        end: whole.end.min(start + numbers.life),
-                    },
-                };
-                let (key, value) = match level {
-                    LEAF => (APART * own + place, 7),
-                    _ => {
-                        let led = target(&mut rng, numbers, level, own, place);
-                        let more = || sketch.page(level - 1, Vec::new());
-                        (APART * led, *below.entry(led).or_insert_with(more))
-                    }
-                };
-                let router = entry(key, span, value);
-                if !orders.contains(&Entry::order(&router)) {
-                    orders.push(router.order());
-                    sketch.router(page, router);
-                }
-            }
+        let mut below = Row::new();
+        for own in row {
+            fill(&mut sketch, &mut rng, numbers, level, own, &mut below);
         }
         row = below;
     }
     sketch.store(ALIVE - 1)
+}
+
+/// The entries of the page at a place, none of them twice. A page of the level below is made
+/// when a router first leads to it.
+fn fill(
+    sketch: &mut Sketch,
+    rng: &mut Rng,
+    numbers: Web,
+    level: u32,
+    (own, page): (u32, u32),
+    below: &mut Row,
+) {
+    let fewest = numbers.staying.min(numbers.fan);
+    let mut orders = Vec::new();
+    for place in 0..rng.between(fewest, numbers.fan) {
+        let (key, value) = match level {
+            LEAF => (APART * own + place, 7),
+            _ => {
+                let led = target(rng, numbers, level, own, place);
+                let more = || sketch.page(level - 1, Vec::new());
+                (APART * led, *below.entry(led).or_insert_with(more))
+            }
+        };
+        let router = entry(key, numbers.span(level, place), value);
+        if !orders.contains(&router.order()) {
+            orders.push(router.order());
+            sketch.router(page, router);
+        }
+    }
 }
 
 /// Which page a router leads to, by its place among those of the level below.

@@ -1,13 +1,14 @@
 -- `guard_pruning` meets its contract. Assumes nothing.
 use Rattle.changes.specs.Pruning.{pruning}
 use Rattle.changes.proofs.laws.Pruning.{gives-six, gives-eight, gives-none}
-use Rattle.reads.proofs.laws.Guard.{judged-number, zero-sound}
+use Rattle.reads.proofs.laws.Guard.{judged-number}
 use Rattle.store.proofs.laws.Sure.{few, front}
 use mathlib.Core.Path.{sym, _∙_}
 use native.Mathlib.Omega.{arith}
 use borrow.Author.Needs.{needs}
 use Rattle.changes.proofs.pruning.guard_pruning.Statement.{statement}
 use Rattle.changes.proofs.pruning.guard_pruning.Tie as tie
+use Rattle.model.proofs.sound.Judging.{zero-sound}
 
 number-requires : tie.Need-number-requires
 number-requires c κs = search needs

@@ -1,7 +1,7 @@
 -- `guard_returning` meets its contract. Assumes nothing.
 use Rattle.changes.specs.Returning.{returning}
 use Rattle.changes.proofs.laws.Returning.{gives-six, gives-seven, gives-none}
-use Rattle.reads.proofs.laws.Guard.{judged-number, zero-sound}
+use Rattle.reads.proofs.laws.Guard.{judged-number}
 use Rattle.store.proofs.laws.Sure.{few, front}
 use borrow.Author.Tests.{not-true, not-false}
 use mathlib.Core.Path.{sym, _∙_}
@@ -9,6 +9,7 @@ use native.Mathlib.Omega.{arith}
 use borrow.Author.Needs.{needs}
 use Rattle.changes.proofs.returning.guard_returning.Statement.{statement}
 use Rattle.changes.proofs.returning.guard_returning.Tie as tie
+use Rattle.model.proofs.sound.Judging.{zero-sound}
 
 number-requires : tie.Need-number-requires
 number-requires c κs = search needs

@@ -7,8 +7,9 @@ use Rattle.store.proofs.laws.Sure.{few, front}
 use Rattle.model.specs.Calls.{isSome}
 use Rattle.model.specs.Layout.{decode}
 use Rattle.model.specs.Walk.{lookup}
+use Rattle.model.proofs.sound.Judging.{zero-sound}
 use Rattle.walk.specs.Sure.{Walkable}
-use Rattle.reads.proofs.laws.Guard.{judged-number, zero-sound}
+use Rattle.reads.proofs.laws.Guard.{judged-number}
 use Rattle.changes.specs.Updating.{updating}
 use Rattle.changes.proofs.laws.Updating.{limit-low, gives-key, gives-unopened, gives-rest, open-readable, open-at}
 use borrow.Author.Needs.{needs}

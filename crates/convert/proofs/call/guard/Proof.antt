@@ -9,10 +9,11 @@ use Rattle.model.specs.declared.Limits.{Limits}
 use Rattle.model.specs.declared.Header.{Header}
 use Rattle.model.specs.Layout.{readHeader, decode}
 use Rattle.model.specs.Judged.{lengthOk, judged}
+use Rattle.model.proofs.sound.Judging.{zero-sound}
 use Rattle.page.proofs.laws.Editions.{edition-of}
 use Rattle.store.proofs.laws.Read.{opened-of}
 use Rattle.store.proofs.laws.Sure.{front, few}
-use Rattle.convert.proofs.laws.Guard.{few-bytes, other-name, other-edition, target-wrong, judged-wrong, judged-sound, is-open}
+use Rattle.convert.proofs.laws.Guard.{few-bytes, other-name, other-edition, target-wrong, judged-wrong, is-open}
 use Rattle.convert.proofs.laws.Guard.{is-shut}
 use Rattle.convert.proofs.call.guard.Statement.{statement}
 use Rattle.convert.proofs.call.guard.Tie as tie
@@ -115,7 +116,7 @@ header-requires c κs =
     let at-start = c .before .before .before .before .before .before .before .before .before .before .before .before .before in
     let a = at-start .args in
     let d = edition-of 4 (c .before .before .edition-one .ensures) (omega arith) (omega arith) in
-    let s = judged-sound _ (a .s .now) (sym (c .before .number .ensures) ∙ c .if5 .left) in
+    let s = zero-sound _ (a .s .now) (sym (c .before .number .ensures) ∙ c .if5 .left) in
     (d, omega (arith, front d (a .s .now) s), few d (a .s .now) s)
 
 returns-6 : tie.Need-returns-6

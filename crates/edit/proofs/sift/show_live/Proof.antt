@@ -6,7 +6,7 @@ use borrow.Author.Tests.{le-leb}
 use Rattle.model.specs.Limits.{liveShown}
 use Rattle.model.specs.Field.{putField}
 use Rattle.model.specs.Layout.{lives, readEntries}
-use Rattle.model.proofs.needs.Sizes.{few-those}
+use Rattle.model.proofs.lists.Lists.{few-those}
 use Rattle.page.specs.Head.{putLive}
 use Rattle.page.proofs.laws.Read.{length-entries}
 use borrow.Author.Needs.{needs}

@@ -3,7 +3,7 @@ use Prim.Native.Nat.{ℕ, _≤_, _+_, _-_}
 use native.Mathlib.Omega.{arith}
 use mathlib.Core.Path.{_≡_, subst}
 use borrow.Author.Needs.{needs}
-use Rattle.life.specs.Still.{Until}
+use Rattle.model.specs.Still.{Until}
 use Rattle.life.proofs.laws.Still.{aliveFrom, page-none, page-more}
 use Rattle.life.proofs.holding.page_until.Statement.{statement}
 use Rattle.life.proofs.holding.page_until.Tie as tie

@@ -10,7 +10,7 @@ use Rattle.model.specs.Layout.{readSlots}
 use Rattle.model.specs.Walk.{rootAt}
 use Rattle.store.proofs.laws.Read.{slots-of}
 use Rattle.store.proofs.laws.Sure.{few, front, roots}
-use Rattle.life.specs.Still.{Until}
+use Rattle.model.specs.Still.{Until}
 use Rattle.life.proofs.laws.Still.{roots-none, roots-more}
 use Rattle.life.proofs.holding.root_until.Statement.{statement}
 use Rattle.life.proofs.holding.root_until.Tie as tie

@@ -1,10 +1,8 @@
 -- `bounded::listed_by` meets its contract. Assumes nothing.
 use Prim.Native.Nat.{ℕ, pred, _+_, _*_, _-_, _≤_}
-use native.Mathlib.Numerals.{sub-one}
 use native.Mathlib.Omega.{arith}
-use mathlib.Core.Path.{_≡_, ap, sym, _∙_, subst}
+use mathlib.Core.Path.{_≡_, ap, sym, _∙_}
 use mathlib.Core.List.{List, _++_}
-use mathlib.Core.Bool.{true}
 use lib.ListN.{length, drop}
 use borrow.Author.Needs.{needs}
 use Rattle.model.specs.Near.{rangeRight}
@@ -12,11 +10,10 @@ use Rattle.model.specs.Lent.{Listed}
 use Rattle.model.specs.Walk.{rangeBelow}
 use Rattle.model.specs.Layout.{decode}
 use Rattle.walk.proofs.laws.Counted.{counted-short, counted-all}
-use Rattle.walk.specs.Written.{numbers, written, PairSpace}
+use Rattle.walk.specs.Written.{numbers}
 use Rattle.walk.proofs.laws.Written.{written-all}
 use Rattle.near.proofs.laws.Crossed.{answered-wrong, answered-right}
 use Rattle.tabled.proofs.laws.Most.{found-most}
-use Rattle.tabled.proofs.laws.Cells.{table-fewer}
 use Rattle.tabled.proofs.laws.Table.{found-some, found-zero}
 use Rattle.tabled.proofs.laws.Bound.{right-few}
 use Rattle.near.proofs.bounded.listed_by.Statement.{statement}
@@ -65,34 +62,22 @@ returns-2 c =
     let f : ℕ → Listed = λ k. record { number = 14; count = k; list = ns } in
     ap f e ∙ sym (counted-short ns xs (omega (arith, e, c .if2 .taken))) ∙ answered-right ns x xs (t .0)
 
-wide-requires : tie.Need-wide-requires
-wide-requires c κs = search needs
-
-sub-gather-by : tie.Need-sub-gather-by
-sub-gather-by c =
-    let at-start = c .before .before .before .before .before .before .before in
-    omega (arith, c .wide .ensures, at-start .pre .3)
-
-gather-by-requires : tie.Need-gather-by-requires
-gather-by-requires c κs =
-    let at-wide = c .before in
-    let at-down = at-wide .before .before .before in
+write-by-requires : tie.Need-write-by-requires
+write-by-requires c κs =
+    let at-if2 = c .before in
+    let at-if1 = at-if2 .before in
+    let at-down = at-if1 .before in
     let at-start = at-down .before .before .before .before in
     let a = at-start .args in
-    let ns = a .list .now in
     let t = found-some (a .l .least) (a .s .now) (a .q .version) (a .q .low) (a .q .high) (pred (a .level)) (a .q .low) (a .n)
-    (at-down .down .result) (at-down .down .ensures) (at-wide .before .before .if1 .left) in
-    let u = sub-one (at-wide .wide .result) ∙ ap pred (at-wide .wide .ensures) in
+    (at-down .down .result) (at-down .down .ensures) (at-if1 .if1 .left) in
     let few = right-few (a .l .least) (a .s .now) (at-start .pre .0 .eight) (pred (a .level)) (a .q .version) (a .q .low) (a .q .high)
     (a .q .low) (a .n) (t .0) in (
       record { edition = at-start .pre .0; sized = rw (at-start .pre .1 .sized .is) (at-start .pre .1 .sized); few = at-start .pre .2 },
-      subst (λ (m : ℕ). rangeRight (a .l .least) (a .s .now) (a .q .version) m (a .q .high) (a .q .low) (a .n) ≡ true) (sym u) (t .0),
-      subst (λ (m : ℕ). PairSpace true ns 0
-          (rangeBelow m (decode (a .l .least) (a .s .now) .pages) (a .q .version) (a .q .low) (a .q .high) (a .q .low) (a .n))) (sym u)
-          (record { few = omega (arith, few); room = λ e. omega (arith, t .1, at-wide .before .if2 .left) }),
-      table-fewer (a .l .least) (a .s .now) (a .q .size) (at-start .pre .1 .sized) (a .q .version) (a .q .low) (a .q .high)
-          ((a .level + 1) * 4096) ((at-wide .wide .result - 1 + 2) * 4096) (a .table .now)
-          (omega (arith, at-wide .wide .ensures, at-start .pre .3)) (at-start .pre .5),
+      at-start .pre .3,
+      t .0,
+      record { few = omega (arith, few); room = λ e. omega (arith, t .1, at-if2 .if2 .left) },
+      at-start .pre .5,
     )
 
 same-length : tie.Need-same-length
@@ -100,8 +85,7 @@ same-length c = search needs
 
 returns-3 : tie.Need-returns-3
 returns-3 c =
-    let at-wide = c .before .before .before .before in
-    let at-if2 = at-wide .before in
+    let at-if2 = c .before .before .before .before in
     let at-if1 = at-if2 .before in
     let at-down = at-if1 .before in
     let at-start = at-down .before .before .before .before in
@@ -112,13 +96,9 @@ returns-3 c =
     (a .n) in
     let t = found-some (a .l .least) (a .s .now) (a .q .version) (a .q .low) (a .q .high) (pred (a .level)) (a .q .low) (a .n)
     (at-down .down .result) (at-down .down .ensures) (at-if1 .if1 .left) in
-    let u = sub-one (at-wide .wide .result) ∙ ap pred (at-wide .wide .ensures) in
     let e : at-down .down .result - 1 ≡ length xs = omega (arith, t .1) in
     let room : 2 * length xs ≤ length ns = omega (arith, e, at-if2 .if2 .left) in
-    let g = c .before .before .gather-by .ensures .list
-    ∙ ap (λ (m : ℕ). written true ns 0
-    (rangeBelow m (decode (a .l .least) (a .s .now) .pages) (a .q .version) (a .q .low) (a .q .high) (a .q .low) (a .n))) u
-    ∙ written-all ns xs room in
+    let g = c .before .before .write-by .ensures ∙ written-all ns xs room in
     let f : ℕ → List ℕ → Listed = λ k ys. record { number = 0; count = k; list = ys } in
     ap (f (at-down .down .result - 1)) g ∙ ap (λ (k : ℕ). f k (numbers xs ++ drop (length (numbers xs)) ns)) e
     ∙ sym (counted-all ns xs room) ∙ answered-right ns x xs (t .0)
@@ -132,8 +112,6 @@ listed-by-spec =
     sub-found
     mul-if2
     returns-2
-    wide-requires
-    sub-gather-by
-    gather-by-requires
+    write-by-requires
     same-length
     returns-3)

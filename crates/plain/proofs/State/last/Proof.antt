@@ -11,7 +11,9 @@ add-result : tie.Need-add-result
 add-result c = search needs
 
 returns : tie.Need-returns
-returns c = let a = c .before .before .args in add-one (a .self .current) ∙ ap (λ (b : Bool). lastOf b (a .self .current)) (sym (c .before .if1 .taken))
+returns c =
+    let a = c .before .before .args in add-one (a .self .current)
+    ∙ ap (λ (b : Bool). lastOf b (a .self .current)) (sym (c .before .if1 .taken))
 
 returns-2 : tie.Need-returns-2
 returns-2 c = search needs

@@ -22,7 +22,8 @@ returns-2 : tie.Need-returns-2
 returns-2 c =
     let a = c .before .before .before .args in
     let l = lastOf (a .self .opened) (a .self .current) in
-    sym (ap (λ (b : Bool). b || ltb (a .v) (a .self .oldest)) (le-ltb l (a .v) (omega (arith, c .before .before .last .ensures, c .before .if1 .left))))
+    sym (ap (λ (b : Bool). b || ltb (a .v) (a .self .oldest))
+    (le-ltb l (a .v) (omega (arith, c .before .before .last .ensures, c .before .if1 .left))))
 
 pub unreadable-spec : {M : Type 1} → statement M
 unreadable-spec = tie.close (tie.spec last-requires returns returns-2)

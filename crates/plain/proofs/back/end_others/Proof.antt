@@ -18,26 +18,45 @@ next-key-requires c κs = (c .before .before .pre .room, omega arith)
 
 loop-holds : tie.Need-loop-holds Inv-loop μ-loop
 loop-holds c =
-    let a = c .before .before .before .args in
-    turning-start (endOther (a .w) (a .v)) (a .w) (a .v) (other-silent (a .w) (a .v)) (a .items .now) (a .n) (c .before .before .before .pre) (c .next-key .result) (c .next-key .ensures)
+    let at-start = c .before .before .before in
+    let a = at-start .args in
+    turning-start (endOther (a .w) (a .v)) (a .w) (a .v) (other-silent (a .w) (a .v)) (a .items .now) (a .n)
+    (at-start .pre) (c .next-key .result) (c .next-key .ensures)
 
 end-other-requires : tie.Need-end-other-requires Inv-loop μ-loop
 end-other-requires c κs = c .before .before .loop .inv .lent
 
 add-next-key : tie.Need-add-next-key Inv-loop μ-loop
-add-next-key c = omega (arith, c .before .before .before .before .before .loop-test .taken)
+add-next-key c =
+    let at-test = c .before .before .before .before .before in
+    omega (arith, at-test .loop-test .taken)
 
 next-key-requires-2 : tie.Need-next-key-requires-2 Inv-loop μ-loop
-next-key-requires-2 c κs = (c .before .before .before .end-other .ensures .lent .room, omega (arith, c .before .before .before .before .before .loop-test .taken))
+next-key-requires-2 c κs =
+    let at-test = c .before .before .before .before .before in
+    (c .before .before .before .end-other .ensures .lent .room, omega (arith, at-test .loop-test .taken))
 
 loop-less : tie.Need-loop-less Inv-loop μ-loop
-loop-less c = omega (arith, c .before .before .before .before .before .before .loop-test .taken, c .next-key2 .ensures .behind, c .next-key2 .ensures .within)
+loop-less c =
+    let at-test = c .before .before .before .before .before .before in
+    omega (
+      arith,
+      at-test .loop-test .taken,
+      c .next-key2 .ensures .behind,
+      c .next-key2 .ensures .within,
+    )
 
 loop-again : tie.Need-loop-again Inv-loop μ-loop
 loop-again c =
-    let a = c .before .before .before .before .before .before .before .before .before .before .before .args in
-    let l = c .before .before .before .before .before .before .before .loop in
-    turning-on (endOther (a .w) (a .v)) (a .w) (a .v) (other-silent (a .w) (a .v)) (a .items .now) (a .n) (l .items) (l .m) (l .k) (c .before .before .before .before .before .before .loop-test .taken) (l .inv) _ _ (c .before .before .before .before .end-other .ensures)
+    let at-end-other = c .before .before .before .before in
+    let at-test = at-end-other .before .before in
+    let at-loop = at-test .before in
+    let at-start = at-loop .before .before .before .before in
+    let a = at-start .args in
+    let l = at-loop .loop in
+    turning-on (endOther (a .w) (a .v)) (a .w) (a .v) (other-silent (a .w) (a .v)) (a .items .now) (a .n) (l .items) (l .m) (l .k)
+    (at-test .loop-test .taken) (l .inv) _ _
+    (at-end-other .end-other .ensures)
     (c .next-key2 .result) (c .next-key2 .ensures)
 
 same-length : tie.Need-same-length Inv-loop μ-loop
@@ -45,10 +64,13 @@ same-length c = c .before .loop .inv .same
 
 returns : tie.Need-returns Inv-loop μ-loop
 returns c =
-    let a = c .before .before .before .before .before .args in
+    let at-start = c .before .before .before .before .before in
+    let a = at-start .args in
     let l = c .before .loop in
-    turning-end (endOther (a .w) (a .v)) (a .w) (a .v) (other-silent (a .w) (a .v)) (a .items .now) (a .n) (l .items) (l .m) (l .k) (c .loop-test .left) (l .inv)
+    turning-end (endOther (a .w) (a .v)) (a .w) (a .v) (other-silent (a .w) (a .v)) (a .items .now) (a .n) (l .items) (l .m) (l .k)
+    (c .loop-test .left) (l .inv)
 
 pub end-others-spec : {M : Type 1} → statement M
 end-others-spec =
-    tie.close (tie.spec Inv-loop μ-loop next-key-requires loop-holds end-other-requires add-next-key next-key-requires-2 loop-less loop-again same-length returns)
+    tie.close (tie.spec Inv-loop μ-loop next-key-requires loop-holds end-other-requires add-next-key next-key-requires-2 loop-less
+    loop-again same-length returns)

@@ -21,34 +21,53 @@ uncommitted-requires c κs = search needs
 returns : tie.Need-returns
 returns c =
     let a = c .before .before .before .args in
-    return-lacks-six (a .items .now) (a .s .count + ownInserts (plainOf (a .s) (a .items .now)) (a .v)) (a .s .oldest) (a .s .current) (a .s .opened) (a .v) (sym (c .before .uncommitted .ensures) ∙ c .if1 .taken)
+    return-lacks-six (a .items .now) (a .s .count + ownInserts (plainOf (a .s) (a .items .now)) (a .v)) (a .s .oldest) (a .s .current)
+    (a .s .opened) (a .v) (sym (c .before .uncommitted .ensures) ∙ c .if1 .taken)
 
 returns-2 : tie.Need-returns-2
 returns-2 c =
-    let a = c .before .before .before .before .before .args in
-    return-lacks-seven (a .items .now) (a .s .count + ownInserts (plainOf (a .s) (a .items .now)) (a .v)) (a .s .oldest) (a .s .current) (a .s .opened) (a .v)
+    let at-start = c .before .before .before .before .before in
+    let a = at-start .args in
+    return-lacks-seven (a .items .now) (a .s .count + ownInserts (plainOf (a .s) (a .items .now)) (a .v)) (a .s .oldest) (a .s .current)
+    (a .s .opened) (a .v)
     (sym (c .before .before .before .uncommitted .ensures) ∙ c .before .before .if1 .left) (not-true (a .s .opened) (c .if2 .taken))
 
 add-comings : tie.Need-add-comings
-add-comings c = omega (arith, c .before .before .before .before .before .before .pre .version)
+add-comings c =
+    let at-start = c .before .before .before .before .before .before in
+    omega (arith, at-start .pre .version)
 
 comings-requires : tie.Need-comings-requires
-comings-requires c κs = c .before .before .before .before .before .before .pre .lent .room
+comings-requires c κs =
+    let at-start = c .before .before .before .before .before .before in
+    at-start .pre .lent .room
 
 add-result : tie.Need-add-result
-add-result c = let h = c .before .before .before .before .before .before .before .before .pre .lent in omega (arith, h .room, h .short, c .before .comings .ensures .1)
+add-result c =
+    let at-start = c .before .before .before .before .before .before .before .before in
+    let h = at-start .pre .lent in
+    omega (arith, h .room, h .short, c .before .comings .ensures .1)
 
 mul-result : tie.Need-mul-result
-mul-result c = let h = c .before .before .before .before .before .before .before .before .pre .lent in omega (arith, h .room, h .short, c .before .comings .ensures .1)
+mul-result c =
+    let at-start = c .before .before .before .before .before .before .before .before in
+    let h = at-start .pre .lent in
+    omega (arith, h .room, h .short, c .before .comings .ensures .1)
 
 returns-3 : tie.Need-returns-3
 returns-3 c =
-    let a = c .before .before .before .before .before .before .before .before .args in
+    let at-if1 = c .before .before .before .before .before in
+    let at-uncommitted = at-if1 .before in
+    let at-start = at-uncommitted .before .before in
+    let a = at-start .args in
     let is : a .s .current + 1 ≡ suc (a .s .current) = omega arith in
-    let n = c .before .comings .ensures .0 ∙ ap (λ (w : ℕ). length (those comes (differs w (a .v) (from (a .items .now) 0 (a .s .count))))) is in
+    let n = c .before .comings .ensures .0 ∙ ap (λ (w : ℕ). length (those comes (differs w (a .v) (from (a .items .now) 0 (a .s .count)))))
+    is in
     ap (λ (m : ℕ). ltb (length (a .items .now)) (4 * (a .s .count + m))) n
-    ∙ return-lacks-room (a .items .now) (a .s .count + ownInserts (plainOf (a .s) (a .items .now)) (a .v)) (a .s .oldest) (a .s .current) (a .s .opened) (a .v)
-    (sym (c .before .before .before .before .before .before .uncommitted .ensures) ∙ c .before .before .before .before .before .if1 .left) (not-false (a .s .opened) (c .before .before .before .if2 .left))
+    ∙ return-lacks-room (a .items .now) (a .s .count + ownInserts (plainOf (a .s) (a .items .now)) (a .v)) (a .s .oldest) (a .s .current)
+    (a .s .opened) (a .v)
+    (sym (at-uncommitted .uncommitted .ensures) ∙ at-if1 .if1 .left)
+    (not-false (a .s .opened) (c .before .before .before .if2 .left))
 
 pub return-lacks-spec : {M : Type 1} → statement M
 return-lacks-spec = tie.close (tie.spec uncommitted-requires returns returns-2 add-comings comings-requires add-result mul-result returns-3)

@@ -28,9 +28,21 @@ element-copy-out-t18 c = search needs
 
 returns : tie.Need-returns
 returns c =
-    let ms = c .before .before .before .before .before .before .args .state .now in
-    let w = c .before .before .wide .ensures in
-    (ap {B = State} (λ (n : ℕ). record { current = getD ms 0 0; opened = eqb (getD ms 1 0) 1; count = n; oldest = getD ms 3 0; edition = getD ms 4 0 }) (w .0), w .1)
+    let at-start = c .before .before .before .before .before .before in
+    let ms = at-start .args .state .now in
+    let w = c .before .before .wide .ensures in (
+      ap {B = State}
+          (λ (n : ℕ). record {
+            current = getD ms 0 0;
+            opened = eqb (getD ms 1 0) 1;
+            count = n;
+            oldest = getD ms 3 0;
+            edition = getD ms 4 0;
+          }) (w .0),
+      w .1,
+    )
 
 pub state-of-spec : {M : Type 1} → statement M
-state-of-spec = tie.close (tie.spec element-copy-out-t4 element-copy-out-t7 element-copy-out-wide wide-requires element-copy-out-t15 element-copy-out-t18 returns)
+state-of-spec =
+    tie.close (tie.spec element-copy-out-t4 element-copy-out-t7 element-copy-out-wide wide-requires element-copy-out-t15
+    element-copy-out-t18 returns)

@@ -28,11 +28,15 @@ says-requires c κs = search needs
 
 returns : tie.Need-returns Inv-loop μ-loop
 returns c =
-    let l = c .before .before .before .before .loop in
-    let a = c .before .before .before .before .before .before .args in
+    let at-loop = c .before .before .before .before in
+    let at-start = at-loop .before .before in
+    let l = at-loop .loop in
+    let a = at-start .args in
     let e = sym (c .before .says .ensures) ∙ c .if1 .taken in
     let x = c .before .before .item .ensures in
-    ap (λ (y : Entry). foundOf (some (y .value))) x ∙ ap foundOf (sym (l .inv .1 ∙ value-here (a .key) (a .v) (a .items .now) (l .i) (a .n) (c .before .before .before .loop-test .taken) (rw x at e)))
+    ap (λ (y : Entry). foundOf (some (y .value))) x
+    ∙ ap foundOf (sym
+    (l .inv .1 ∙ value-here (a .key) (a .v) (a .items .now) (l .i) (a .n) (c .before .before .before .loop-test .taken) (rw x at e)))
 
 add-i : tie.Need-add-i Inv-loop μ-loop
 add-i c = search needs
@@ -42,11 +46,16 @@ loop-less c = search needs
 
 loop-again : tie.Need-loop-again Inv-loop μ-loop
 loop-again c =
-    let l = c .before .before .before .before .loop in
-    let a = c .before .before .before .before .before .before .args in
+    let at-test = c .before .before .before in
+    let at-loop = at-test .before in
+    let at-start = at-loop .before .before in
+    let l = at-loop .loop in
+    let a = at-start .args in
     let e = sym (c .before .says .ensures) ∙ c .if1 .left in
-    let x = c .before .before .item .ensures in
-    (omega (arith, c .before .before .before .loop-test .taken), l .inv .1 ∙ value-on (a .key) (a .v) (a .items .now) (l .i) (a .n) (c .before .before .before .loop-test .taken) (rw x at e))
+    let x = c .before .before .item .ensures in (
+      omega (arith, at-test .loop-test .taken),
+      l .inv .1 ∙ value-on (a .key) (a .v) (a .items .now) (l .i) (a .n) (at-test .loop-test .taken) (rw x at e),
+    )
 
 returns-2 : tie.Need-returns-2 Inv-loop μ-loop
 returns-2 c = ap foundOf (sym (c .before .loop .inv .1 ∙ ap (valueAt _ _) (from-end _ _ _ (c .loop-test .left))))

@@ -17,13 +17,16 @@ is-lent-requires c κs = search needs
 -- the list is lent to be read: that it is untouched is no part of the contract
 returns : tie.Need-returns
 returns c =
-    let a = c .before .before .before .before .args in
+    let at-start = c .before .before .before .before in
+    let a = at-start .args in
     let none = sym (c .before .is-lent .ensures) ∙ not-true (c .before .is-lent .result) (c .if1 .taken) in
     let r = refuses (a .items .now) (a .state .now) none (commit (readPlain (a .items .now) (a .state .now))) in
     (r .0, (r .1 .0, r .1 .1 .1))
 
 -- past the test the numbers are a plain store
-yes : (c : tie.Else1) → let a = c .before .before .before .before .args in isLent (a .items .now) (a .state .now) ≡ true
+yes : (c : tie.Else1) →
+    let at-start = c .before .before .before .before in
+    let a = at-start .args in isLent (a .items .now) (a .state .now) ≡ true
 yes c = sym (c .before .is-lent .ensures) ∙ not-false (c .before .is-lent .result) (c .if1 .left)
 
 state-of-requires : tie.Need-state-of-requires
@@ -31,24 +34,32 @@ state-of-requires c κs = search needs
 
 commit-requires : tie.Need-commit-requires
 commit-requires c κs =
-    let a = c .before .before .before .before .before .before .args in
+    let at-start = c .before .before .before .before .before .before in
+    let a = at-start .args in
     guards.own-held (a .items .now) (a .state .now) (yes (c .before .before)) _ (c .state-of .ensures .0)
 
 keep-requires : tie.Need-keep-requires
 keep-requires c κs =
-    let a = c .before .before .before .before .before .before .before .before .args in
-    let lent = yes (c .before .before .before .before) in
+    let at-if1 = c .before .before .before .before in
+    let at-start = at-if1 .before .before .before .before in
+    let a = at-start .args in
+    let lent = yes at-if1 in
     let s = c .before .before .state-of in
     let call = c .before .commit in
-    fits (a .items .now) (a .state .now) lent (s .result) (s .ensures .0) (call .result) (a .items .now) (λ (q : Plain). commit q) (call .ensures) (λ q. guards.commit-few q)
+    fits (a .items .now) (a .state .now) lent (s .result) (s .ensures .0) (call .result) (a .items .now) (λ (q : Plain). commit q)
+    (call .ensures) (λ q. guards.commit-few q)
 
 returns-2 : tie.Need-returns-2
 returns-2 c =
-    let a = c .before .before .before .before .before .before .before .before .before .args in
-    let lent = yes (c .before .before .before .before .before) in
+    let at-if1 = c .before .before .before .before .before in
+    let at-start = at-if1 .before .before .before .before in
+    let a = at-start .args in
+    let lent = yes at-if1 in
     let s = c .before .before .before .state-of in
     let call = c .before .before .commit in
-    let r = leaves-few (a .items .now) (a .state .now) lent (s .result) (s .ensures .0) (call .result) (a .items .now) (λ (q : Plain). commit q) (call .ensures) (λ q. guards.commit-few q) (λ q h. again.commit-stands q h) refl (c .keep .result) (c .keep .last .0) (c .keep .ensures .0) (c .keep .ensures .1) in
+    let r = leaves-few (a .items .now) (a .state .now) lent (s .result) (s .ensures .0) (call .result) (a .items .now)
+    (λ (q : Plain). commit q) (call .ensures) (λ q. guards.commit-few q) (λ q h. again.commit-stands q h) refl (c .keep .result)
+    (c .keep .last .0) (c .keep .ensures .0) (c .keep .ensures .1) in
     (r .0, (r .1 .0, r .1 .1 .1))
 
 pub commit-spec : {M : Type 1} → statement M

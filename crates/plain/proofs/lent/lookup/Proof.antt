@@ -27,13 +27,20 @@ state-of-requires c κs = search needs
 
 lookup-requires : tie.Need-lookup-requires
 lookup-requires c κs =
-    let a = c .before .before .before .before .args in
-    guards.own-held (a .items .now) (a .state .now) (sym (c .before .before .is-lent .ensures) ∙ not-false (c .before .before .is-lent .result) (c .before .if1 .left)) _ (c .state-of .ensures .0)
+    let at-is-lent = c .before .before in
+    let at-start = at-is-lent .before .before in
+    let a = at-start .args in
+    guards.own-held (a .items .now) (a .state .now)
+    (sym (at-is-lent .is-lent .ensures) ∙ not-false (at-is-lent .is-lent .result) (c .before .if1 .left)) _
+    (c .state-of .ensures .0)
 
 returns-2 : tie.Need-returns-2
 returns-2 c =
-    let a = c .before .before .before .before .before .args in
-    let yes = sym (c .before .before .before .is-lent .ensures) ∙ not-false (c .before .before .before .is-lent .result) (c .before .before .if1 .left) in
+    let at-is-lent = c .before .before .before in
+    let at-start = at-is-lent .before .before in
+    let a = at-start .args in
+    let yes = sym (at-is-lent .is-lent .ensures)
+    ∙ not-false (at-is-lent .is-lent .result) (c .before .before .if1 .left) in
     c .lookup .ensures ∙ ap (λ (t : State). lookup (plainOf t (a .items .now)) (a .key) (a .version)) (c .before .state-of .ensures .0)
     ∙ sym (ap (λ (b : Bool). pick b (lookup (readPlain (a .items .now) (a .state .now)) (a .key) (a .version)) (Refused 4)) yes)
 

@@ -17,8 +17,10 @@ is-state-requires c κs = search needs
 returns : tie.Need-returns
 returns c =
     let ms = c .before .before .before .args .state .now in
-    let none = sym (c .before .is-state .ensures) ∙ not-true (c .before .is-state .result) (c .if1 .taken) in
-    (λ ns. guards.guarded-none (isState ms) (readPlain ns ms) (begin (readPlain ns ms)) none, (λ e. refl, λ e. guards.not-both (isState ms) e none))
+    let none = sym (c .before .is-state .ensures) ∙ not-true (c .before .is-state .result) (c .if1 .taken) in (
+      λ ns. guards.guarded-none (isState ms) (readPlain ns ms) (begin (readPlain ns ms)) none,
+      (λ e. refl, λ e. guards.not-both (isState ms) e none),
+    )
 
 state-of-requires : tie.Need-state-of-requires
 state-of-requires c κs = search needs
@@ -34,13 +36,24 @@ keep-requires c κs =
 
 returns-2 : tie.Need-returns-2
 returns-2 c =
-    let ms = c .before .before .before .before .before .before .before .before .args .state .now in
-    let yes = sym (c .before .before .before .before .before .before .is-state .ensures) ∙ not-false (c .before .before .before .before .before .before .is-state .result) (c .before .before .before .before .before .if1 .left) in
+    let at-if1 = c .before .before .before .before .before in
+    let at-is-state = at-if1 .before in
+    let at-start = at-is-state .before .before in
+    let ms = at-start .args .state .now in
+    let yes = sym (at-is-state .is-state .ensures)
+    ∙ not-false (at-is-state .is-state .result)
+    (at-if1 .if1 .left) in
     let s = c .before .before .before .state-of in
     let call = c .before .before .«open» in (
-      λ ns. guards.kept-given (call .result) (c .keep .result) ns (c .keep .last .0) (c .keep .ensures .0) (c .keep .ensures .1) ∙ call .ensures ns
-          ∙ ap (λ (t : State). begin (plainOf t ns)) (s .ensures .0) ∙ guards.guarded-some (isState ms) (readPlain ns ms) (begin (readPlain ns ms)) yes,
-      (λ e. guards.not-both (isState ms) yes e, again.state-again ms (s .result) (s .ensures .0) (call .result) (call .ensures) (c .keep .last .0) (c .keep .ensures .1)),
+      λ ns. guards.kept-given (call .result) (c .keep .result) ns (c .keep .last .0) (c .keep .ensures .0) (c .keep .ensures .1)
+          ∙ call .ensures ns
+          ∙ ap (λ (t : State). begin (plainOf t ns)) (s .ensures .0)
+          ∙ guards.guarded-some (isState ms) (readPlain ns ms) (begin (readPlain ns ms)) yes,
+      (
+        λ e. guards.not-both (isState ms) yes e,
+        again.state-again ms (s .result) (s .ensures .0) (call .result) (call .ensures)
+            (c .keep .last .0) (c .keep .ensures .1),
+      ),
     )
 
 pub open-spec : {M : Type 1} → statement M

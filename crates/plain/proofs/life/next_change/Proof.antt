@@ -4,7 +4,7 @@ use native.Mathlib.Omega.{arith}
 use mathlib.Core.Path.{_≡_, subst}
 use Rattle.plain.specs.Plain.{valueAt}
 use Rattle.plain.specs.Items.{from}
-use Rattle.plain.specs.Lived.{Until}
+use Rattle.model.specs.Still.{Until}
 use Rattle.plain.proofs.laws.Lived.{until-none, until-more}
 use borrow.Author.Needs.{needs}
 use Rattle.plain.proofs.life.next_change.Statement.{statement}
@@ -33,14 +33,16 @@ loop-less c = search needs
 
 loop-again : tie.Need-loop-again Inv-loop μ-loop
 loop-again c =
-    let a = c .before .before .before .before .before .args in
+    let at-start = c .before .before .before .before .before in
+    let a = at-start .args in
     let l = c .before .before .before .loop in
     let h = c .before .before .loop-test .taken in
     let e = c .before .item in
     let is : l .i ≡ l .i - 1 + 1 = omega (arith, h) in (
       omega (arith, l .inv .0),
       until-more (a .items .now) (a .n) (a .key) (a .v) (a .r) (l .i - 1) (omega (arith, h, l .inv .0)) (l .q)
-          (subst (λ (j : ℕ). Until (a .v) (a .r) (λ (w : ℕ). valueAt (a .key) w (from (a .items .now) j (a .n))) (l .q)) is (l .inv .1)) (e .result) (e .ensures) (c .change-of .result) (c .change-of .ensures),
+          (subst (λ (j : ℕ). Until (a .v) (a .r) (λ (w : ℕ). valueAt (a .key) w (from (a .items .now) j (a .n))) (l .q)) is (l .inv .1))
+          (e .result) (e .ensures) (c .change-of .result) (c .change-of .ensures),
     )
 
 returns : tie.Need-returns Inv-loop μ-loop

@@ -7,7 +7,7 @@ use mathlib.Core.List.{[], _∷_}
 use lib.ListN.{length-set}
 use Rattle.model.specs.Telling.{written}
 use Rattle.model.proofs.reading.Telling.{write-one, write-not}
-use Rattle.plain.specs.Lived.{stretches}
+use Rattle.model.specs.Still.{stretches}
 use borrow.Author.Needs.{needs}
 use Rattle.plain.proofs.life.put_stretch.Statement.{statement}
 use Rattle.plain.proofs.life.put_stretch.Tie as tie
@@ -53,12 +53,14 @@ returns c =
     let a = c .before .args in
     let e : 3 * a .k + 1 ≡ suc (3 * a .k) = omega arith in
     let f : 3 * a .k + 2 ≡ suc (suc (3 * a .k)) = omega arith in
-    rw (e, f) (write-one stretches (a .list .now) (a .k) (a .a)) ∙ ap (λ (w : Bool). written stretches w (a .list .now) (a .k) (a .a ∷ [])) (sym (c .if1 .taken))
+    rw (e, f) (write-one stretches (a .list .now) (a .k) (a .a))
+    ∙ ap (λ (w : Bool). written stretches w (a .list .now) (a .k) (a .a ∷ [])) (sym (c .if1 .taken))
 
 returns-2 : tie.Need-returns-2
 returns-2 c =
     let a = c .before .args in
-    sym (write-not stretches (a .list .now) (a .k) (a .a ∷ [])) ∙ ap (λ (w : Bool). written stretches w (a .list .now) (a .k) (a .a ∷ [])) (sym (c .if1 .left))
+    sym (write-not stretches (a .list .now) (a .k) (a .a ∷ []))
+    ∙ ap (λ (w : Bool). written stretches w (a .list .now) (a .k) (a .a ∷ [])) (sym (c .if1 .left))
 
 pub put-stretch-spec : {M : Type 1} → statement M
 put-stretch-spec =

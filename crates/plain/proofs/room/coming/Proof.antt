@@ -15,13 +15,19 @@ same-requires : tie.Need-same-requires
 same-requires c κs = search needs
 
 returns : tie.Need-returns
-returns c = let a = c .before .before .args in by (sameFound (a .a) (a .b)) (a .b .is) {t = true} (sym (c .before .same .ensures) ∙ c .if1 .taken) refl
+returns c =
+    let a = c .before .before .args in by (sameFound (a .a) (a .b)) (a .b .is) {t = true}
+    (sym (c .before .same .ensures) ∙ c .if1 .taken) refl
 
 returns-2 : tie.Need-returns-2
-returns-2 c = let a = c .before .before .before .args in by (sameFound (a .a) (a .b)) (a .b .is) {t = false} {c = true} (sym (c .before .before .same .ensures) ∙ c .before .if1 .left) (c .if2 .taken)
+returns-2 c =
+    let a = c .before .before .before .args in by (sameFound (a .a) (a .b)) (a .b .is) {t = false} {c = true}
+    (sym (c .before .before .same .ensures) ∙ c .before .if1 .left) (c .if2 .taken)
 
 returns-3 : tie.Need-returns-3
-returns-3 c = let a = c .before .before .before .args in by (sameFound (a .a) (a .b)) (a .b .is) {t = false} {c = false} (sym (c .before .before .same .ensures) ∙ c .before .if1 .left) (c .if2 .left)
+returns-3 c =
+    let a = c .before .before .before .args in by (sameFound (a .a) (a .b)) (a .b .is) {t = false} {c = false}
+    (sym (c .before .before .same .ensures) ∙ c .before .if1 .left) (c .if2 .left)
 
 pub coming-spec : {M : Type 1} → statement M
 coming-spec = tie.close (tie.spec same-requires returns returns-2 returns-3)

@@ -33,47 +33,67 @@ loop-holds : tie.Need-loop-holds Inv-loop μ-loop
 loop-holds c =
     let a = c .before .before .args in
     let s = c .next-key in
-    let es = from (a .items .now) 0 (a .n) in
-    (s .ensures .within, omega arith, omega (arith, ap many (differs-told (a .w) (a .v) es ∙ saying-skip 0 (s .result) (a .w) (a .v) es (s .ensures))))
+    let es = from (a .items .now) 0 (a .n) in (
+      s .ensures .within,
+      omega arith,
+      omega (arith, ap many (differs-told (a .w) (a .v) es ∙ saying-skip 0 (s .result) (a .w) (a .v) es (s .ensures))),
+    )
 
 value-at-requires : tie.Need-value-at-requires Inv-loop μ-loop
-value-at-requires c κs = c .before .before .before .before .pre
+value-at-requires c κs =
+    let at-start = c .before .before .before .before in
+    at-start .pre
 
 value-at-requires-2 : tie.Need-value-at-requires-2 Inv-loop μ-loop
-value-at-requires-2 c κs = c .before .before .before .before .before .pre
+value-at-requires-2 c κs =
+    let at-start = c .before .before .before .before .before in
+    at-start .pre
 
 coming-requires : tie.Need-coming-requires Inv-loop μ-loop
 coming-requires c κs = search needs
 
 add-found : tie.Need-add-found Inv-loop μ-loop
 add-found c =
-    let l = c .before .before .before .before .loop in
+    let at-loop = c .before .before .before .before in
+    let l = at-loop .loop in
     omega (arith, l .inv .0, l .inv .1, c .coming .ensures, comes-few (c .before .before .value-at .result) (c .before .value-at2 .result))
 
 add-next-key : tie.Need-add-next-key Inv-loop μ-loop
 add-next-key c = omega (arith, c .before .before .before .loop-test .taken)
 
 next-key-requires-2 : tie.Need-next-key-requires-2 Inv-loop μ-loop
-next-key-requires-2 c κs = (c .before .before .before .before .before .before .before .pre, omega (arith, c .before .before .before .loop-test .taken))
+next-key-requires-2 c κs =
+    let at-start = c .before .before .before .before .before .before .before in
+    (at-start .pre, omega (arith, c .before .before .before .loop-test .taken))
 
 loop-less : tie.Need-loop-less Inv-loop μ-loop
-loop-less c = omega (arith, c .before .before .before .before .loop-test .taken, c .next-key2 .ensures .behind, c .next-key2 .ensures .within)
+loop-less c =
+    let at-test = c .before .before .before .before in
+    omega (arith, at-test .loop-test .taken, c .next-key2 .ensures .behind, c .next-key2 .ensures .within)
 
 loop-again : tie.Need-loop-again Inv-loop μ-loop
 loop-again c =
-    let a = c .before .before .before .before .before .before .before .before .args in
-    let l = c .before .before .before .before .before .loop in
+    let at-test = c .before .before .before .before in
+    let at-loop = at-test .before in
+    let at-start = at-loop .before .before .before in
+    let a = at-start .args in
+    let l = at-loop .loop in
     let x = c .before .before .before .value-at in
     let y = c .before .before .value-at2 in
     let s = c .next-key2 in
     let es = from (a .items .now) 0 (a .n) in
-    let one = comes-step (l .k) (a .w) (a .v) es (c .before .before .before .before .loop-test .taken) (x .result) (y .result) (x .ensures) (y .ensures) in
-    let on = ap many (saying-skip (l .k + 1) (s .result) (a .w) (a .v) es (s .ensures)) in
-    (s .ensures .within, omega (arith, l .inv .1, s .ensures .behind, c .before .coming .ensures, comes-few (x .result) (y .result)), omega (arith, l .inv .2, one, on, c .before .coming .ensures))
+    let one = comes-step (l .k) (a .w) (a .v) es (at-test .loop-test .taken) (x .result) (y .result) (x .ensures)
+    (y .ensures) in
+    let on = ap many (saying-skip (l .k + 1) (s .result) (a .w) (a .v) es (s .ensures)) in (
+      s .ensures .within,
+      omega (arith, l .inv .1, s .ensures .behind, c .before .coming .ensures, comes-few (x .result) (y .result)),
+      omega (arith, l .inv .2, one, on, c .before .coming .ensures),
+    )
 
 returns : tie.Need-returns Inv-loop μ-loop
 returns c =
-    let a = c .before .before .before .before .args in
+    let at-start = c .before .before .before .before in
+    let a = at-start .args in
     let l = c .before .loop in
     let es = from (a .items .now) 0 (a .n) in
     let none-left = ap many (saying-end (a .w) (a .v) es (l .k) (c .loop-test .left)) in
@@ -82,4 +102,5 @@ returns c =
 pub comings-spec : {M : Type 1} → statement M
 comings-spec =
     tie.close
-    (tie.spec Inv-loop μ-loop next-key-requires loop-holds value-at-requires value-at-requires-2 coming-requires add-found add-next-key next-key-requires-2 loop-less loop-again returns)
+    (tie.spec Inv-loop μ-loop next-key-requires loop-holds value-at-requires value-at-requires-2 coming-requires add-found add-next-key
+    next-key-requires-2 loop-less loop-again returns)

@@ -34,11 +34,15 @@ loop-less c = search needs
 
 loop-again : tie.Need-loop-again Inv-loop μ-loop
 loop-again c =
-    let a = c .before .before .before .before .before .args in
+    let at-start = c .before .before .before .before .before in
+    let a = at-start .args in
     let l = c .before .before .before .loop in
     let h = c .before .before .loop-test .taken in
-    let e = c .before .item in
-    (omega (arith, h), skips-on (a .a) (l .r) (a .u) (a .v) (a .items .now) (l .i) (a .n) h (l .inv .1) (e .result) (e .ensures) (c .lower .result) (c .lower .ensures))
+    let e = c .before .item in (
+      omega (arith, h),
+      skips-on (a .a) (l .r) (a .u) (a .v) (a .items .now) (l .i) (a .n) h (l .inv .1) (e .result) (e .ensures)
+          (c .lower .result) (c .lower .ensures),
+    )
 
 returns : tie.Need-returns Inv-loop μ-loop
 returns c =

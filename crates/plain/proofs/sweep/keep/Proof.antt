@@ -16,21 +16,30 @@ use Rattle.plain.proofs.sweep.keep.Tie as tie
 
 put-requires : tie.Need-put-requires
 put-requires c κs =
-    let a = c .before .before .before .args in
+    let at-start = c .before .before .before in
+    let a = at-start .args in
     let one = ap (λ (xs : List Entry). length xs) (kept-one (a .e) (a .f) (c .before .if1 .taken)) in
-    omega (arith, c .before .before .before .pre .room refl, one)
+    omega (arith, at-start .pre .room refl, one)
 
 add-result : tie.Need-add-result
-add-result c = omega (arith, c .before .before .before .before .before .before .pre .few)
+add-result c =
+    let at-start = c .before .before .before .before .before .before in
+    omega (arith, at-start .pre .few)
 
 same-length : tie.Need-same-length
 same-length c = search needs
 
 returns : tie.Need-returns
 returns c =
-    let a = c .before .before .before .before .before .before .args in
-    let one = kept-one (a .e) (a .f) (c .before .before .before .before .if1 .taken) in
-    rw one (record { count = refl; list = c .before .before .put .ensures ∙ sym (laid-written (a .items .now) (a .j) (withEnd (a .e) (a .f .end))) })
+    let at-if1 = c .before .before .before .before in
+    let at-start = at-if1 .before .before in
+    let a = at-start .args in
+    let one = kept-one (a .e) (a .f) (at-if1 .if1 .taken) in
+    rw one (record {
+      count = refl;
+      list = c .before .before .put .ensures
+          ∙ sym (laid-written (a .items .now) (a .j) (withEnd (a .e) (a .f .end)));
+    })
 
 returns-2 : tie.Need-returns-2
 returns-2 c =

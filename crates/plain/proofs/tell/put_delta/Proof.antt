@@ -66,12 +66,14 @@ returns c =
     let e : 4 * a .k + 1 ≡ suc (4 * a .k) = omega arith in
     let f : 4 * a .k + 2 ≡ suc (suc (4 * a .k)) = omega arith in
     let g : 4 * a .k + 3 ≡ suc (suc (suc (4 * a .k))) = omega arith in
-    rw (e, f, g) (write-one deltas (a .list .now) (a .k) (a .d)) ∙ ap (λ (w : Bool). written deltas w (a .list .now) (a .k) ((a .d) ∷ [])) (sym (c .if1 .taken))
+    rw (e, f, g) (write-one deltas (a .list .now) (a .k) (a .d))
+    ∙ ap (λ (w : Bool). written deltas w (a .list .now) (a .k) ((a .d) ∷ [])) (sym (c .if1 .taken))
 
 returns-2 : tie.Need-returns-2
 returns-2 c =
     let a = c .before .args in
-    sym (write-not deltas (a .list .now) (a .k) ((a .d) ∷ [])) ∙ ap (λ (w : Bool). written deltas w (a .list .now) (a .k) ((a .d) ∷ [])) (sym (c .if1 .left))
+    sym (write-not deltas (a .list .now) (a .k) ((a .d) ∷ []))
+    ∙ ap (λ (w : Bool). written deltas w (a .list .now) (a .k) ((a .d) ∷ [])) (sym (c .if1 .left))
 
 pub put-delta-spec : {M : Type 1} → statement M
 put-delta-spec =

@@ -41,12 +41,14 @@ returns : tie.Need-returns
 returns c =
     let a = c .before .args in
     let e : 2 * a .k + 1 ≡ suc (2 * a .k) = omega arith in
-    rw e (write-one pairs (a .list .now) (a .k) (pair (a .key) (a .value))) ∙ ap (λ (w : Bool). written pairs w (a .list .now) (a .k) ((pair (a .key) (a .value)) ∷ [])) (sym (c .if1 .taken))
+    rw e (write-one pairs (a .list .now) (a .k) (pair (a .key) (a .value)))
+    ∙ ap (λ (w : Bool). written pairs w (a .list .now) (a .k) ((pair (a .key) (a .value)) ∷ [])) (sym (c .if1 .taken))
 
 returns-2 : tie.Need-returns-2
 returns-2 c =
     let a = c .before .args in
-    sym (write-not pairs (a .list .now) (a .k) ((pair (a .key) (a .value)) ∷ [])) ∙ ap (λ (w : Bool). written pairs w (a .list .now) (a .k) ((pair (a .key) (a .value)) ∷ [])) (sym (c .if1 .left))
+    sym (write-not pairs (a .list .now) (a .k) ((pair (a .key) (a .value)) ∷ []))
+    ∙ ap (λ (w : Bool). written pairs w (a .list .now) (a .k) ((pair (a .key) (a .value)) ∷ [])) (sym (c .if1 .left))
 
 pub put-pair-spec : {M : Type 1} → statement M
 put-pair-spec =

@@ -9,7 +9,8 @@ use Rattle.model.specs.Basic.{those, pick}
 use Rattle.model.specs.declared.Entry.{Entry}
 use Rattle.model.specs.Layout.{readEntries}
 use Rattle.spans.specs.Quick.{pastAll, past}
-use Rattle.quick.proofs.laws.Part.{past-grows, past-those-step, past-those-end}
+use Rattle.spans.proofs.laws.Stretches.{past-all-more}
+use Rattle.quick.proofs.laws.Part.{past-those-step, past-those-end}
 use Rattle.quick.proofs.part.key_over.Statement.{statement}
 use Rattle.quick.proofs.part.key_over.Tie as tie
 
@@ -34,7 +35,7 @@ returns c =
       arith,
       j .inv .1,
       c .if1 .taken,
-      past-grows (j .t)
+      past-all-more (j .t)
           (those (λ (e : Entry). eqb (e .key) (a .k)) (readEntries (a .page .now) (128 + 96 * j .i) (a .n - j .i))),
     )))
 

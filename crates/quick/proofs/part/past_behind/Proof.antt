@@ -4,7 +4,8 @@ use native.Mathlib.Omega.{arith}
 use borrow.Author.Needs.{needs}
 use Rattle.model.specs.Layout.{readEntries}
 use Rattle.spans.specs.Quick.{pastAll, past}
-use Rattle.quick.proofs.laws.Part.{past-grows, past-step, past-end}
+use Rattle.spans.proofs.laws.Stretches.{past-all-more}
+use Rattle.quick.proofs.laws.Part.{past-step, past-end}
 use Rattle.quick.proofs.part.past_behind.Statement.{statement}
 use Rattle.quick.proofs.part.past_behind.Tie as tie
 
@@ -22,7 +23,7 @@ returns : tie.Need-returns Inv-loop μ-loop
 returns c =
     let at-start = c .before .before .before .before in
     let a = at-start .args in let j = c .before .before .loop in
-    omega (arith, j .inv .1, c .if1 .taken, past-grows (j .t) (readEntries (a .page .now) (128 + 96 * j .k) (a .n - j .k)))
+    omega (arith, j .inv .1, c .if1 .taken, past-all-more (j .t) (readEntries (a .page .now) (128 + 96 * j .k) (a .n - j .k)))
 
 entry-at-requires : tie.Need-entry-at-requires Inv-loop μ-loop
 entry-at-requires c κs =

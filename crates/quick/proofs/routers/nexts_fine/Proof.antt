@@ -7,7 +7,7 @@ use borrow.Author.Needs.{needs}
 use borrow.Author.Tests.{not-true, not-false}
 use Rattle.model.specs.Layout.{decode, readEntries}
 use Rattle.spans.specs.Quick.{past, under as underOf, nexts}
-use Rattle.quick.proofs.laws.Part.{past-more}
+use Rattle.spans.proofs.laws.Stretches.{past-more}
 use Rattle.quick.specs.Under.{underPage}
 use Rattle.quick.proofs.laws.Under.{nexts-step, nexts-end, nexts-empty}
 use Rattle.quick.proofs.laws.Within.{settled, ends, goes-on}
@@ -26,14 +26,6 @@ abbrev μ-loop : tie.MeasureT-loop
 loop-holds : tie.Need-loop-holds Inv-loop μ-loop
 loop-holds c = (c .before .before .pre .5, omega arith, omega arith, λ lt. refl)
 
-returns : tie.Need-returns Inv-loop μ-loop
-returns c =
-    let at-start = c .before .before .before .before .before in
-    let a = at-start .args in let j = c .before .before .loop in
-    let u = underPage (a .up) (decode (a .l .least) (a .s .now) .pages) (a .m) in
-    settled (a .left) (j .rest) (j .inv .1) (nexts u (a .a) (a .b) (readEntries (a .p .now) (128 + 96 * a .i) (a .n - a .i))) true
-    (λ lt. j .inv .3 lt ∙ nexts-empty u (j .t) (a .b) (readEntries (a .p .now) (128 + 96 * j .k) (a .n - j .k)) (c .if1 .taken))
-
 entry-at-requires : tie.Need-entry-at-requires Inv-loop μ-loop
 entry-at-requires c κs =
     let at-start = c .before .before .before .before .before in
@@ -49,8 +41,8 @@ next-fine-requires c κs =
       omega (arith, at-start .pre .6, c .before .before .before .loop .inv .2),
     )
 
-returns-2 : tie.Need-returns-2 Inv-loop μ-loop
-returns-2 c =
+returns : tie.Need-returns Inv-loop μ-loop
+returns c =
     let at-next-fine = c .before .before in
     let at-entry-at = at-next-fine .before in
     let at-test = at-entry-at .before .before in
@@ -104,15 +96,23 @@ loop-again c =
       λ lt. rw (c .past .ensures) (g .1 lt),
     )
 
-returns-3 : tie.Need-returns-3 Inv-loop μ-loop
-returns-3 c =
+returns-2 : tie.Need-returns-2 Inv-loop μ-loop
+returns-2 c =
     let at-start = c .before .before .before .before in
     let a = at-start .args in let j = c .before .loop in let ps = decode (a .l .least) (a .s .now) .pages in
     settled (a .left) (j .rest) (j .inv .1)
     (nexts (underPage (a .up) ps (a .m)) (a .a) (a .b) (readEntries (a .p .now) (128 + 96 * a .i) (a .n - a .i))) true
     (λ lt. j .inv .3 lt ∙ nexts-end ps (a .up) (a .p .now) (j .k) (a .n) (a .m) (j .t) (a .b) (c .loop-test .left))
 
+returns-3 : tie.Need-returns-3 Inv-loop μ-loop
+returns-3 c =
+    let at-start = c .before .before .before .before .before in
+    let a = at-start .args in let j = c .before .before .loop in
+    let u = underPage (a .up) (decode (a .l .least) (a .s .now) .pages) (a .m) in
+    settled (a .left) (j .rest) (j .inv .1) (nexts u (a .a) (a .b) (readEntries (a .p .now) (128 + 96 * a .i) (a .n - a .i))) true
+    (λ lt. j .inv .3 lt ∙ nexts-empty u (j .t) (a .b) (readEntries (a .p .now) (128 + 96 * j .k) (a .n - j .k)) (c .if1 .taken))
+
 pub nexts-fine-spec : {M : Type 1} → statement M
 nexts-fine-spec =
-    tie.close (tie.spec Inv-loop μ-loop loop-holds returns entry-at-requires next-fine-requires returns-2 past-requires add-k loop-less
-    loop-again returns-3)
+    tie.close (tie.spec Inv-loop μ-loop loop-holds entry-at-requires next-fine-requires returns past-requires add-k loop-less loop-again
+    returns-2 returns-3)

@@ -2,12 +2,13 @@
 use Prim.Native.Nat.{_≤_, _<_, _-_, _+_, _*_}
 use mathlib.Core.Path.{_≡_, ap}
 use native.Mathlib.Omega.{arith}
-use Rattle.reach.proofs.laws.Quiet.{out-less, quiet-none, quiet-more, quiet-one}
+use Rattle.reach.proofs.laws.Quiet.{quiet-none, quiet-more, quiet-one}
 use Rattle.reach.specs.Versions.{QuietEntries}
 use Rattle.page.specs.Head.{readHead}
 use Rattle.page.specs.declared.Head.{Head}
 use Rattle.reach.proofs.change.page_change.Statement.{statement}
 use Rattle.reach.proofs.change.page_change.Tie as tie
+use Rattle.model.proofs.sound.Quiet.{out-less}
 
 abbrev Inv-loop : tie.InvT-loop
 Inv-loop page v r count q₀ i₀ q i = (i ≤ count) × (q ≤ q₀) × (v < q) × QuietEntries page i v q

@@ -7,9 +7,10 @@ use Rattle.store.proofs.laws.Read.{current-lt}
 use Rattle.reads.proofs.laws.Reading.{unread-of}
 use Rattle.reads.specs.Differing.{differing}
 use Rattle.reads.proofs.laws.Differing.{gives-first, gives-second, gives-both}
-use Rattle.reads.proofs.laws.Guard.{judged-number, zero-sound}
+use Rattle.reads.proofs.laws.Guard.{judged-number}
 use Rattle.reads.proofs.differing.guard_differing.Statement.{statement}
 use Rattle.reads.proofs.differing.guard_differing.Tie as tie
+use Rattle.model.proofs.sound.Judging.{zero-sound}
 
 number-requires : tie.Need-number-requires
 number-requires c κs = search needs

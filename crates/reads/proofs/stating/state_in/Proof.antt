@@ -1,10 +1,10 @@
 -- `state_in` meets its contract. Assumes nothing.
 use mathlib.Core.Path.{sym, _∙_}
 use borrow.Author.Needs.{needs}
-use Rattle.reads.proofs.laws.Guard.{zero-sound}
 use Rattle.reads.proofs.laws.Stating.{state-refused, state-done}
 use Rattle.reads.proofs.stating.state_in.Statement.{statement}
 use Rattle.reads.proofs.stating.state_in.Tie as tie
+use Rattle.model.proofs.sound.Judging.{zero-sound}
 
 number-requires : tie.Need-number-requires
 number-requires c κs = search needs
