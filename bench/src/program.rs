@@ -12,7 +12,11 @@ use hostile::measure::{in_turn_outside, times, told};
 
 const LINES: usize = 10_000;
 
-const PROVED: &str = concat!(env!("CARGO_MANIFEST_DIR"), "/../target/bin/console");
+/// The kit's console, which is one for x86-64; where `bench/run` made one for this processor, that.
+fn proved() -> PathBuf {
+    let kit = concat!(env!("CARGO_MANIFEST_DIR"), "/../target/bin/console");
+    std::env::var_os("RCST_CONSOLE").map_or_else(|| kit.into(), PathBuf::from)
+}
 
 fn reference() -> PathBuf {
     let own = std::env::current_exe().expect("the path of this program");
@@ -71,11 +75,11 @@ pub fn program() {
 /// Both programs on ten thousand lines, so many times over; with equal answers.
 fn row(stores: &str, input: &[u8], repeats: usize) {
     let path = written(&input.repeat(repeats));
-    let (proved, reference) = (Path::new(PROVED), reference());
+    let (proved, reference) = (proved(), reference());
     let answers = |program: &Path| run(program, &path, Stdio::piped());
-    assert!(answers(proved) == answers(&reference), "equal answers");
+    assert!(answers(&proved) == answers(&reference), "equal answers");
     let taken = in_turn_outside(&mut [
-        &mut || run(proved, &path, Stdio::null()).len() as u64,
+        &mut || run(&proved, &path, Stdio::null()).len() as u64,
         &mut || run(&reference, &path, Stdio::null()).len() as u64,
     ]);
     let count = LINES * repeats;
