@@ -104,10 +104,10 @@ fn merge(p: &[u8], m: usize, q: &[u8], n: usize, a: Ask, list: &mut [u32], found
 fn moves(e: Entry, u: u32, v: u32) -> bool
     ensures { λ r. ⌜ r ≡ moves u v e ⌝ }
 {
-    if walk::alive_at(e, u) {
-        return !walk::alive_at(e, v);
+    if page::alive_at(e, u) {
+        return !page::alive_at(e, v);
     }
-    walk::alive_at(e, v)
+    page::alive_at(e, v)
 }
 
 // Whether none of a page's entries is: it shows the same at both.

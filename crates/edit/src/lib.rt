@@ -12,7 +12,6 @@ ghost use mathlib.Core.Bool.{_&&_, _||_};
 ghost use Prim.Native.Nat.{ℕ, _+_, _*_, _^_, _≤_, _<_};
 ghost use lib.ListN.{length, getD, take, drop};
 ghost use Rattle.model.specs.Limits.{Edition};
-ghost use Rattle.model.specs.Entry.{liveAt};
 ghost use Rattle.model.specs.Page.{filled, gone, changed};
 ghost use Rattle.model.specs.Calls.{back};
 ghost use Rattle.model.specs.Layout.{encodePage, decodePage};
@@ -40,12 +39,6 @@ pub fn either(a: bool, b: bool) -> bool
     ensures { λ r. ⌜ r ≡ (a || b) ⌝ }
 {
     if a { true } else { b }
-}
-
-pub fn live(e: Entry, w: u32) -> bool
-    ensures { λ r. ⌜ r ≡ liveAt w e ⌝ }
-{
-    both(e.start <= w, w < e.end)
 }
 
 // A page that goes: an active one is freed, another killed.

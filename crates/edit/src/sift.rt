@@ -83,9 +83,9 @@ fn meet(rule: Rule, w: u32, e: Entry) -> Fate
     ensures { λ r. ⌜ r ≡ fateOf rule w e ⌝ }
 {
     match rule {
-        Rule::Kill => end_if(crate::live(e, w), w, e),
+        Rule::Kill => end_if(page::alive_at(e, w), w, e),
         Rule::End { n, a, b } => end_if(
-            crate::both(crate::live(e, w), among(e.key, n, a, b)),
+            crate::both(page::alive_at(e, w), among(e.key, n, a, b)),
             w,
             e,
         ),

@@ -127,7 +127,7 @@ fn kept_pairs(page: &[u8], l: Limits, w: u32, c: Change) -> Gather
             key: e.key,
             value: e.value,
         };
-        n += one(edit::both(edit::live(e, w), !dropped(c, e.key)));
+        n += one(edit::both(page::alive_at(e, w), !dropped(c, e.key)));
         i += 1;
     }
     Gather { list, n }
@@ -183,7 +183,7 @@ pub fn after(page: &[u8], l: Limits, w: u32, c: Change) -> usize
     let mut i = 0;
     while i < count {
         let e = page::entry_at(page, i);
-        let ends = edit::both(edit::live(e, w), dropped(c, e.key));
+        let ends = edit::both(page::alive_at(e, w), dropped(c, e.key));
         n += one(!edit::both(ends, e.start == w));
         i += 1;
     }

@@ -19,7 +19,7 @@ ghost use Rattle.gather.specs.Kept.{Counted, Fits};
 fn remains(e: Entry, w: u32, c: Change) -> bool
     ensures { λ r. ⌜ r ≡ (liveAt w e && not (has (e .key) (changeOf c .drop))) ⌝ }
 {
-    edit::both(edit::live(e, w), !crate::dropped(c, e.key))
+    edit::both(page::alive_at(e, w), !crate::dropped(c, e.key))
 }
 
 // "at least 4 live": whether a page's wanted list has so many. Counting ends once it has.

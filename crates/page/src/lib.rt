@@ -10,6 +10,7 @@ ghost use lib.ListN.{length};
 ghost use Rattle.model.specs.Limits.{Edition, liveShown};
 ghost use Rattle.model.specs.Basic.{those};
 ghost use Rattle.model.specs.Field.{lay, zeros};
+ghost use Rattle.model.specs.Entry.{liveAt};
 ghost use Rattle.model.specs.Layout.{entryParts, readEntry, readEntries, lives, countOf, liveOf, encodePage, decodePage};
 ghost use Rattle.page.specs.Head.{readHead, putHead, putLive, HeadFits, frontBy, putFront, FrontFits};
 ghost use Rattle.page.specs.Read.{FieldsFit};
@@ -120,6 +121,16 @@ pub fn entry_at(page: &[u8], i: usize) -> Entry
         end: b % 1048576,
         value: bits::field(page, o + 64, 32),
     }
+}
+
+// "A span runs from start up to but not including end": whether an entry is alive at v.
+pub fn alive_at(e: Entry, v: u32) -> bool
+    ensures { λ r. ⌜ r ≡ liveAt v e ⌝ }
+{
+    if v < e.start {
+        return false;
+    }
+    v < e.end
 }
 
 // Makes every byte zero.

@@ -7,20 +7,9 @@ ghost use Prim.Native.Nat.{_+_, _*_, _^_, _≤_, _<_};
 ghost use lib.ListN.{length};
 ghost use lib.Dec.{ltb};
 ghost use Rattle.model.specs.Basic.{pick};
-ghost use Rattle.model.specs.Entry.{liveAt};
 ghost use Rattle.model.specs.Sound.{fewest};
 ghost use Rattle.model.specs.Layout.{readEntry};
 ghost use Rattle.reach.specs.Pending.{NextLive, pairsFrom, openOk, stepOk};
-
-// "A span runs from start up to but not including end."
-fn is_live(e: Entry, v: u32) -> bool
-    ensures { λ r. ⌜ r ≡ liveAt v e ⌝ }
-{
-    if v < e.start {
-        return false;
-    }
-    v < e.end
-}
 
 // The place of the first live entry from i on, or n.
 pub(crate) fn next_live(page: &[u8], v: u32, i: usize, n: usize) -> usize
@@ -30,7 +19,7 @@ pub(crate) fn next_live(page: &[u8], v: u32, i: usize, n: usize) -> usize
     let mut k = i;
     while k < n {
         let e = page::entry_at(page, k);
-        if is_live(e, v) {
+        if page::alive_at(e, v) {
             return k;
         }
         k += 1;

@@ -31,24 +31,14 @@ pub struct Query {
     pub write: bool,
 }
 
-// Whether an entry is alive at v.
-pub fn alive_at(e: Entry, v: u32) -> bool
-    ensures { λ r. ⌜ r ≡ liveAt v e ⌝ }
-{
-    if v < e.start {
-        return false;
-    }
-    v < e.end
-}
-
-// Whether it is, and has its key from `low` on.
+// Whether an entry is alive at v, and has its key from `low` on.
 fn alive_from(e: Entry, v: u32, low: u32) -> bool
     ensures { λ r. ⌜ r ≡ (leb low (e .key) && liveAt v e) ⌝ }
 {
     if e.key < low {
         return false;
     }
-    alive_at(e, v)
+    page::alive_at(e, v)
 }
 
 // The place of the next entry, from i on, that is alive at v and has its key from low to high; n if there is none.
@@ -140,7 +130,7 @@ pub fn own_router(page: &[u8], n: usize, v: u32, key: u32) -> Own
     while 0 < i {
         i -= 1;
         let e = page::entry_at(page, i);
-        if alive_at(e, v) {
+        if page::alive_at(e, v) {
             return Own {
                 page: e.value,
                 next,

@@ -35,8 +35,8 @@ loop-holds c = (omega arith, omega arith, omega arith)
 entry-at-requires : tie.Need-entry-at-requires Inv-loop μ-loop
 entry-at-requires c κs = omega (arith, count-is (c .before .before))
 
-live-requires : tie.Need-live-requires Inv-loop μ-loop
-live-requires c κs = search needs
+alive-at-requires : tie.Need-alive-at-requires Inv-loop μ-loop
+alive-at-requires c κs = search needs
 
 dropped-requires : tie.Need-dropped-requires Inv-loop μ-loop
 dropped-requires c κs = search needs
@@ -64,8 +64,8 @@ loop-less c = search needs
 loop-again : tie.Need-loop-again Inv-loop μ-loop
 loop-again c =
     let at-dropped = c .before .before .before .before in
-    let at-live = at-dropped .before in
-    let at-entry-at = at-live .before in
+    let at-alive-at = at-dropped .before in
+    let at-entry-at = at-alive-at .before in
     let at-loop = at-entry-at .before .before in
     let at-head-of = at-loop .before in
     let at-start = at-head-of .before .before in
@@ -77,7 +77,7 @@ loop-again c =
     let s : rest b i n ≡ e ∷ rest b (i + 1) n = rest-step b i n (omega arith) ∙ rw (at-entry-at .entry-at .ensures) in
     let t : c .one .result ≡ one (stays (at-start .args .w) d e)
     = c .one .ensures .0
-    ∙ rw (c .before .both2 .ensures, c .before .before .before .both .ensures, at-live .live .ensures, at-dropped .dropped .ensures) in (
+    ∙ rw (c .before .both2 .ensures, c .before .before .before .both .ensures, at-alive-at .alive-at .ensures, at-dropped .dropped .ensures) in (
       omega arith,
       omega (arith, c .one .ensures .1),
       omega (arith, at-loop .loop .inv .2, ap (staying (at-start .args .w) d) s, staying-step (at-start .args .w) d e (rest b (i + 1) n)),
@@ -118,7 +118,7 @@ after-spec =
     head-of-requires
     loop-holds
     entry-at-requires
-    live-requires
+    alive-at-requires
     dropped-requires
     both-requires
     both-requires-2

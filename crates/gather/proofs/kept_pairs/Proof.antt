@@ -54,8 +54,8 @@ array-set-from-list c =
     let at-head-of = at-loop .before in
     omega (arith, count-is at-head-of, at-loop .loop .inv .2, c .before .loop-test .taken)
 
-live-requires : tie.Need-live-requires Inv-loop μ-loop
-live-requires c κs = search needs
+alive-at-requires : tie.Need-alive-at-requires Inv-loop μ-loop
+alive-at-requires c κs = search needs
 
 dropped-requires : tie.Need-dropped-requires Inv-loop μ-loop
 dropped-requires c κs = search needs
@@ -79,8 +79,8 @@ loop-again : tie.Need-loop-again Inv-loop μ-loop
 loop-again c =
     let at-both = c .before in
     let at-dropped = at-both .before in
-    let at-live = at-dropped .before in
-    let at-entry-at = at-live .before in
+    let at-alive-at = at-dropped .before in
+    let at-entry-at = at-alive-at .before in
     let at-loop = at-entry-at .before .before in
     let at-head-of = at-loop .before in
     let at-start = at-head-of .before .before in
@@ -100,7 +100,7 @@ loop-again c =
     = rw (c .one .ensures .0) (more .is) in
     let s : rest b i count ≡ e ∷ rest b (i + 1) count = rest-step b i count (omega arith) ∙ rw r in
     let t : at-both .both .result ≡ (liveAt (at-start .args .w) e && not (has (e .key) (changeOf (at-start .args .c) .drop)))
-    = at-both .both .ensures ∙ rw (at-live .live .ensures, at-dropped .dropped .ensures) in (
+    = at-both .both .ensures ∙ rw (at-alive-at .alive-at .ensures, at-dropped .dropped .ensures) in (
       omega arith,
       rw (c .one .ensures .0) (more .good),
       omega (arith, c .one .ensures .1, at-loop .loop .inv .2),
@@ -137,7 +137,7 @@ kept-pairs-spec =
     entry-at-requires
     mul-list
     array-set-from-list
-    live-requires
+    alive-at-requires
     dropped-requires
     both-requires
     one-requires

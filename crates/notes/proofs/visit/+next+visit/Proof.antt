@@ -24,10 +24,10 @@ use Rattle.notes.proofs.visit.+next+visit.Lts-visit as visit-lts
 use Rattle.notes.proofs.keep.note_at.Reads as note-at-reads
 use Rattle.notes.proofs.keep.put.Reads as put-reads
 use Rattle.notes.proofs.keep.put_away.Reads as put-away-reads
-use Rattle.notes.proofs.step.is_live.Reads as is-live-reads
 use Rattle.notes.proofs.step.nothing.Reads as nothing-reads
 use Rattle.notes.proofs.step.step.Reads as step-reads
 use Rattle.model.proofs.wide.Reads as wide-reads
+use Rattle.page.proofs.alive_at.Reads as alive-at-reads
 use Rattle.page.proofs.entry_at.Reads as entry-at-reads
 use Rattle.page.proofs.head_of.Reads as head-of-reads
 use Rattle.store.proofs.part.Reads as part-reads
@@ -59,8 +59,8 @@ next-claims t = (
   nothing-reads.Learnt,
   step-reads.Asked,
   step-reads.Learnt,
-  is-live-reads.Asked,
-  is-live-reads.Learnt,
+  alive-at-reads.Asked,
+  alive-at-reads.Learnt,
   wide-reads.Asked,
   wide-reads.Learnt,
   note-at-reads.Asked,
@@ -108,8 +108,8 @@ next-returns t c =
       r .3,
     )
 
-next-is-live-requires : (t : ℕ) → next-lts.Need-is-live-requires (next-claims t) (next-at t) next.Post
-next-is-live-requires t c κs = search needs
+next-alive-at-requires : (t : ℕ) → next-lts.Need-alive-at-requires (next-claims t) (next-at t) next.Post
+next-alive-at-requires t c κs = search needs
 
 next-nothing-requires-2 : (t : ℕ) → next-lts.Need-nothing-requires-2 (next-claims t) (next-at t) next.Post
 next-nothing-requires-2 t c κs = search needs
@@ -121,14 +121,14 @@ next-step-requires-2 t c κs =
 
 next-returns-2 : (t : ℕ) → next-lts.Need-returns-2 (next-claims t) (next-at t) next.Post
 next-returns-2 t c =
-    let at-is-live = c .before .before .before in
-    let at-start = at-is-live .before .before .before .before in
+    let at-alive-at = c .before .before .before in
+    let at-start = at-alive-at .before .before .before .before in
     let a = at-start .args in let r = at-start .pre .1 in (
       step-kid (a .l .least) (a .up) (a .v) (decode (a .l .least) (a .s .now) .pages) (a .x) (c .step2 .result)
           (c .before .nothing2 .result)
           (a .e) (c .before .nothing2 .ensures ∙ sym
           (below-dead (a .l .least) (a .up) (decode (a .l .least) (a .s .now) .pages) (a .v) (a .e)
-          (sym (at-is-live .is-live .ensures) ∙ not-true (at-is-live .is-live .result) (c .before .before .if2 .taken))))
+          (sym (at-alive-at .alive-at .ensures) ∙ not-true (at-alive-at .alive-at .result) (c .before .before .if2 .taken))))
           (c .step2 .ensures),
       r .3,
     )
@@ -138,12 +138,12 @@ next-wide-requires t c κs = search needs
 
 next-note-at-requires : (t : ℕ) → next-lts.Need-note-at-requires (next-claims t) (next-at t) next.Post
 next-note-at-requires t c κs =
-    let at-is-live = c .before .before .before in
-    let at-if1 = at-is-live .before in
+    let at-alive-at = c .before .before .before in
+    let at-if1 = at-alive-at .before in
     let at-start = at-if1 .before .before .before in
     let a = at-start .args in let r = at-start .pre .1 in
     let (x, y) = leads-on (a .l .least) (a .s .now) (a .v) (a .up) (c .before .wide .result) (a .e) (r .2) (c .before .wide .ensures)
-    (at-if1 .if1 .left) (sym (at-is-live .is-live .ensures) ∙ not-false (at-is-live .is-live .result) (c .before .before .if2 .left)) in
+    (at-if1 .if1 .left) (sym (at-alive-at .alive-at .ensures) ∙ not-false (at-alive-at .alive-at .result) (c .before .before .if2 .left)) in
     (omega (arith, x .1, r .1 .most), r .3 .long)
 
 next-step-requires-3 : (t : ℕ) → next-lts.Need-step-requires-3 (next-claims t) (next-at t) next.Post
@@ -159,12 +159,12 @@ next-returns-3 t c =
     let at-note-at = c .before .before .before in
     let at-wide = at-note-at .before .before in
     let at-if2 = at-wide .before in
-    let at-is-live = at-if2 .before in
-    let at-if1 = at-is-live .before in
+    let at-alive-at = at-if2 .before in
+    let at-if1 = at-alive-at .before in
     let at-start = at-if1 .before .before .before in
     let a = at-start .args in let r = at-start .pre .1 in
     let (x, y) = leads-on (a .l .least) (a .s .now) (a .v) (a .up) (at-wide .wide .result) (a .e) (r .2) (at-wide .wide .ensures)
-    (at-if1 .if1 .left) (sym (at-is-live .is-live .ensures) ∙ not-false (at-is-live .is-live .result) (at-if2 .if2 .left)) in (
+    (at-if1 .if1 .left) (sym (at-alive-at .alive-at .ensures) ∙ not-false (at-alive-at .alive-at .result) (at-if2 .if2 .left)) in (
       step-kid (a .l .least) (a .up) (a .v) (decode (a .l .least) (a .s .now) .pages) (a .x) (c .step3 .result)
           (at-note-at .note-at .result)
           (a .e) (known-is (a .l .least) (a .up - 1) (decode (a .l .least) (a .s .now) .pages) (a .v) (at-wide .wide .result)
@@ -172,7 +172,7 @@ next-returns-3 t c =
           (height-here (a .l .least) (a .s .now) (at-wide .wide .result) x (a .up - 1) y) (at-note-at .note-at .ensures)
           (c .before .if3 .taken)
           ∙ sym (below-live (a .l .least) (a .up) (decode (a .l .least) (a .s .now) .pages) (a .v) (a .e) (at-wide .wide .result)
-          (sym (at-is-live .is-live .ensures) ∙ not-false (at-is-live .is-live .result) (at-if2 .if2 .left)) (at-if1 .if1 .left)
+          (sym (at-alive-at .alive-at .ensures) ∙ not-false (at-alive-at .alive-at .result) (at-if2 .if2 .left)) (at-if1 .if1 .left)
           (at-wide .wide .ensures))) (c .step3 .ensures),
       r .3,
     )
@@ -189,12 +189,12 @@ next-visit-requires : (t : ℕ) → next-lts.Need-visit-requires (next-claims t)
 next-visit-requires t c κs =
     let at-wide = c .before .before .before .before .before .before .before .before .before in
     let at-if2 = at-wide .before in
-    let at-is-live = at-if2 .before in
-    let at-if1 = at-is-live .before in
+    let at-alive-at = at-if2 .before in
+    let at-if1 = at-alive-at .before in
     let at-start = at-if1 .before .before .before in
     let a = at-start .args in let r = at-start .pre .1 in
     let (x, y) = leads-on (a .l .least) (a .s .now) (a .v) (a .up) (at-wide .wide .result) (a .e) (r .2) (at-wide .wide .ensures)
-    (at-if1 .if1 .left) (sym (at-is-live .is-live .ensures) ∙ not-false (at-is-live .is-live .result) (at-if2 .if2 .left)) in (
+    (at-if1 .if1 .left) (sym (at-alive-at .alive-at .ensures) ∙ not-false (at-alive-at .alive-at .result) (at-if2 .if2 .left)) in (
       omega (arith, at-if1 .if1 .left, at-start .pre .0),
       (
         r .0,
@@ -220,14 +220,14 @@ next-returns-4 t c =
     let at-visit = c .before .before .before in
     let at-wide = at-visit .before .before .before .before .before .before .before .before .before .before in
     let at-if2 = at-wide .before in
-    let at-is-live = at-if2 .before in
-    let at-if1 = at-is-live .before in
+    let at-alive-at = at-if2 .before in
+    let at-if1 = at-alive-at .before in
     let at-start = at-if1 .before .before .before in
     let a = at-start .args in let r = at-start .pre .1 in (
       step-kid (a .l .least) (a .up) (a .v) (decode (a .l .least) (a .s .now) .pages) (a .x) (c .step4 .result) (at-visit .visit .result)
           (a .e) (at-visit .visit .ensures .0 ∙ sym
           (below-live (a .l .least) (a .up) (decode (a .l .least) (a .s .now) .pages) (a .v) (a .e) (at-wide .wide .result)
-          (sym (at-is-live .is-live .ensures) ∙ not-false (at-is-live .is-live .result) (at-if2 .if2 .left)) (at-if1 .if1 .left)
+          (sym (at-alive-at .alive-at .ensures) ∙ not-false (at-alive-at .alive-at .result) (at-if2 .if2 .left)) (at-if1 .if1 .left)
           (at-wide .wide .ensures))) (c .step4 .ensures),
       at-visit .visit .ensures .1,
     )
@@ -417,7 +417,7 @@ pub +next+visit-spec : {M : Type 1} → statement M
     (next-nothing-requires t)
     (next-step-requires t)
     (next-returns t)
-    (next-is-live-requires t)
+    (next-alive-at-requires t)
     (next-nothing-requires-2 t)
     (next-step-requires-2 t)
     (next-returns-2 t)

@@ -22,8 +22,8 @@ entry-at-requires c κs =
     let at-start = c .before .before .before in
     (omega (arith, at-start .pre .0, c .loop-test .taken), at-start .pre .1)
 
-is-live-requires : tie.Need-is-live-requires Inv-loop μ-loop
-is-live-requires c κs = search needs
+alive-at-requires : tie.Need-alive-at-requires Inv-loop μ-loop
+alive-at-requires c κs = search needs
 
 returns : tie.Need-returns Inv-loop μ-loop
 returns c =
@@ -36,8 +36,8 @@ returns c =
       high = l .inv .1;
       same = l .inv .2;
       live = λ h. pairs-live (a .page .now) (a .v) (l .k) (a .n) h
-          (rw (at-entry-at .entry-at .ensures) at (sym (c .before .is-live .ensures)) ∙ c .if1 .taken);
-      alive = λ h. rw (at-entry-at .entry-at .ensures) at (sym (c .before .is-live .ensures)) ∙ c .if1 .taken;
+          (rw (at-entry-at .entry-at .ensures) at (sym (c .before .alive-at .ensures)) ∙ c .if1 .taken);
+      alive = λ h. rw (at-entry-at .entry-at .ensures) at (sym (c .before .alive-at .ensures)) ∙ c .if1 .taken;
     }
 
 add-k : tie.Need-add-k Inv-loop μ-loop
@@ -57,7 +57,7 @@ loop-again c =
       omega (arith, l .inv .0),
       omega (arith, at-test .loop-test .taken),
       l .inv .2 ∙ pairs-dead (a .page .now) (a .v) (l .k) (a .n) (at-test .loop-test .taken)
-          (rw (c .before .before .entry-at .ensures) at (sym (c .before .is-live .ensures)) ∙ c .if1 .left),
+          (rw (c .before .before .entry-at .ensures) at (sym (c .before .alive-at .ensures)) ∙ c .if1 .left),
     )
 
 returns-2 : tie.Need-returns-2 Inv-loop μ-loop
@@ -79,7 +79,7 @@ next-live-spec =
     μ-loop
     loop-holds
     entry-at-requires
-    is-live-requires
+    alive-at-requires
     returns
     add-k
     loop-less
