@@ -46,8 +46,13 @@ add-if1-2 : tie.Need-add-if1-2
 add-if1-2 c =
     let at-wide = c .before .before in
     let a = at-wide .before .before .before .args in
-    omega (arith, byte at-wide, field-lt (a .page .now) (128 + 96 * a .i + 24) 8, c .before .second-word .ensures,
-    field-lt (a .page .now) (128 + 96 * a .i + 32) 32)
+    omega (
+      arith,
+      byte at-wide,
+      field-lt (a .page .now) (128 + 96 * a .i + 24) 8,
+      c .before .second-word .ensures,
+      field-lt (a .page .now) (128 + 96 * a .i + 32) 32,
+    )
 
 returns : tie.Need-returns
 returns c =
