@@ -14,7 +14,7 @@ ghost use Rattle.model.specs.Calls.{lookedAt};
 ghost use Rattle.model.specs.Near.{startsBy};
 ghost use Rattle.walk.specs.Written.{written, PairSpace, PairGathers};
 ghost use Rattle.walk.specs.Live.{live};
-ghost use Rattle.walk.specs.Scan.{Stands, entry, from, Next, Owns};
+ghost use Rattle.walk.specs.Scan.{Stands, entry, from, Next, answerAt, Owns};
 ghost use Rattle.walk.specs.Places.{Place, Fives};
 
 // The last router alive at or below a key: the page that it leads to, and the place at which the search for it ended.
@@ -108,7 +108,7 @@ fn place(page: &[u8], n: usize, k: u64) -> usize
 }
 
 // The place of the entry of a key that is alive at v; n if there is none.
-fn place_of(page: &[u8], n: usize, v: u32, key: u32) -> usize
+pub(crate) fn place_of(page: &[u8], n: usize, v: u32, key: u32) -> usize
     requires { ⌜ Stands (now page) n ⌝ }
     ensures { λ r. ⌜ Next (now (page .entry)) v key key 0 n r ⌝ }
 {
@@ -116,17 +116,25 @@ fn place_of(page: &[u8], n: usize, v: u32, key: u32) -> usize
     next_place(page, n, v, key, key, first)
 }
 
-// The value of a key at v. The search gives a place, and the answer is made of it here: an enum that a function gives back goes through
-// memory, and this one is short enough to become part of its caller.
+// The answer of a lookup whose search ended at place i. An enum that a function gives back goes through memory: this one is short enough
+// to become part of its caller, where a search is not.
+pub(crate) fn answer_at(page: &[u8], n: usize, i: usize) -> Looked
+    requires { ⌜ Stands (now page) n ⌝ }
+    ensures { λ r. ⌜ r ≡ answerAt (now (page .entry)) n i ⌝ }
+{
+    if i < n {
+        return Looked::Value(page::words::value_in(page, i));
+    }
+    Looked::Absent
+}
+
+// The value of a key at v.
 pub fn find(page: &[u8], n: usize, v: u32, key: u32) -> Looked
     requires { ⌜ Stands (now page) n ⌝ }
     ensures { λ r. ⌜ r ≡ lookedAt (find key (live v (from (now (page .entry)) 0 n))) ⌝ }
 {
     let i = place_of(page, n, v, key);
-    if i < n {
-        return Looked::Value(page::words::value_in(page, i));
-    }
-    Looked::Absent
+    answer_at(page, n, i)
 }
 
 // The last router alive at v at or below a key. There is one: the first router of a page has its low key.
