@@ -32,8 +32,25 @@ fn word(s: &[u8], first: usize, n: usize) -> u64
     r
 }
 
-// The number of the `width` bits from bit `at` on. Every reader of the store reads through this one function, by whole bytes: those that
-// the field touches, five at most, make one word, whose ends are trimmed.
+// The number of the four whole bytes from byte `first` on. A place in bits is multiplied by eight and divided again when the program
+// runs; a place in bytes is not.
+pub fn four(s: &[u8], first: usize) -> u32
+    requires { ⌜ (first + 4 ≤ length (now s)) × (length (now s) ≤ 2 ^ 40) ⌝ }
+    ensures { λ r. ⌜ r ≡ field (now (s .entry)) (8 * first) 32 ⌝ }
+{
+    word(s, first, 4) as u32
+}
+
+// The number of the byte `first`.
+pub fn one(s: &[u8], first: usize) -> u32
+    requires { ⌜ first < length (now s) ⌝ }
+    ensures { λ r. ⌜ r ≡ field (now (s .entry)) (8 * first) 8 ⌝ }
+{
+    s[first] as u32
+}
+
+// The number of the `width` bits from bit `at` on. Every reader of the store whose field is not whole bytes reads through this one
+// function, by whole bytes: those that the field touches, five at most, make one word, whose ends are trimmed.
 pub fn field(s: &[u8], at: usize, width: usize) -> u32
     requires { ⌜ (at + width ≤ 8 * length (now s)) × (width ≤ 32) × (length (now s) ≤ 2 ^ 40) ⌝ }
     ensures { λ r. ⌜ r ≡ field (now (s .entry)) at width ⌝ }

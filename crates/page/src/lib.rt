@@ -112,14 +112,14 @@ pub fn entry_at(page: &[u8], i: usize) -> Entry
     requires { ⌜ (16 + 12 * i + 12 ≤ length (now page)) × (length (now page) ≤ 2 ^ 40) ⌝ }
     ensures { λ r. ⌜ r ≡ readEntry (now (page .entry)) (128 + 96 * i) ⌝ }
 {
-    let o = 128 + 96 * i;
-    let a = bits::field(page, o, 32);
-    let b = bits::field(page, o + 32, 32);
+    let o = 16 + 12 * i;
+    let a = bits::four(page, o);
+    let b = bits::four(page, o + 4);
     Entry {
         key: a / 256,
         start: start_of(a, b),
         end: b % 1048576,
-        value: bits::field(page, o + 64, 32),
+        value: bits::four(page, o + 8),
     }
 }
 

@@ -1,9 +1,10 @@
 -- The header in its bytes.
-use Prim.Native.Nat.{ℕ, _^_, _<_}
+use Prim.Native.Nat.{ℕ, _+_, _^_, _<_}
 use mathlib.Core.List.{List, [], _∷_}
+use lib.Dec.{eqb}
 use Rattle.model.specs.declared.Header.{Header}
 use Rattle.model.specs.Limits.{rootBits, oldestBits}
-use Rattle.model.specs.Field.{Part, _bits_, lay}
+use Rattle.model.specs.Field.{field, Part, _bits_, lay}
 use Rattle.model.specs.Layout.{bit}
 
 -- "the four bytes 52 43 53 54; edition 8 bits (1)"
@@ -19,6 +20,17 @@ valueParts least h =
 -- bytes with this header laid over theirs
 unfoldable pub putHeader : ℕ → List ℕ → Header → List ℕ
 putHeader least s h = lay s 40 (valueParts least h)
+
+-- the header that is read where its number of roots has w bits and its oldest version a
+unfoldable pub headerBy : ℕ → ℕ → List ℕ → Header
+headerBy w a s =
+    record {
+      pages = field s 40 13;
+      current = field s 53 20;
+      opened = eqb (field s 73 1) 1;
+      roots = field s 74 w;
+      oldest = field s (74 + w) a;
+    }
 
 -- each field fits its bits
 pub record HeaderFits (least : ℕ) (h : Header) : Type 0 where

@@ -18,7 +18,7 @@ ghost use Rattle.model.specs.Layout.{readHeader, readSlot, pageOf, sizeOf, bit}
 ghost use Rattle.model.specs.Judged.{lengthOk, magicOk, editionOk};
 ghost use Rattle.model.specs.Lent.{freshLent};
 ghost use Rattle.store.specs.Slots.{SlotFits, slotParts};
-ghost use Rattle.store.specs.Header.{HeaderFits, putHeader};
+ghost use Rattle.store.specs.Header.{HeaderFits, putHeader, headerBy};
 
 // The number of pages that the length makes.
 pub fn size(s: &[u8], l: Limits) -> usize
@@ -67,19 +67,30 @@ pub fn of_edition(s: &[u8], l: Limits) -> bool
     bits::field(s, 32, 8) == model::edition_of(l)
 }
 
-// The header.
-pub fn header(s: &[u8], l: Limits) -> Header
-    requires { ⌜ Edition l × (64 * l .least ≤ length (now s)) × (length (now s) ≤ 2 ^ 40) ⌝ }
-    ensures { λ r. ⌜ r ≡ readHeader (l .least) (now (s .entry)) ⌝ }
+// The header, whose number of roots has `rooter` bits and whose oldest version has `aged`.
+fn header_by(s: &[u8], rooter: usize, aged: usize) -> Header
+    requires { ⌜ (rooter ≤ 10) × (aged ≤ 20) × (13 ≤ length (now s)) × (length (now s) ≤ 2 ^ 40) ⌝ }
+    ensures { λ r. ⌜ r ≡ headerBy rooter aged (now (s .entry)) ⌝ }
 {
     let flag = bits::field(s, 73, 1);
     Header {
         pages: bits::field(s, 40, 13),
         current: bits::field(s, 53, 20),
         opened: flag == 1,
-        roots: bits::field(s, 74, l.rooter),
-        oldest: bits::field(s, 74 + l.rooter, l.aged),
+        roots: bits::field(s, 74, rooter),
+        oldest: bits::field(s, 74 + rooter, aged),
     }
+}
+
+// The header. The widths are said as numbers, as a page's front has them.
+pub fn header(s: &[u8], l: Limits) -> Header
+    requires { ⌜ Edition l × (64 * l .least ≤ length (now s)) × (length (now s) ≤ 2 ^ 40) ⌝ }
+    ensures { λ r. ⌜ r ≡ readHeader (l .least) (now (s .entry)) ⌝ }
+{
+    if l.least <= 4 {
+        return header_by(s, 9, 0);
+    }
+    header_by(s, 10, 20)
 }
 
 // Slot i of the root directory, which begins behind the header's page.

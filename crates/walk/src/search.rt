@@ -14,7 +14,7 @@ ghost use Rattle.model.specs.Calls.{lookedAt};
 ghost use Rattle.model.specs.Near.{startsBy};
 ghost use Rattle.walk.specs.Written.{written, PairSpace, PairGathers};
 ghost use Rattle.walk.specs.Live.{live};
-ghost use Rattle.walk.specs.Scan.{Stands, entry, from, Next, Owns};
+ghost use Rattle.walk.specs.Scan.{Stands, entry, from, Next, answerAt, Owns};
 ghost use Rattle.walk.specs.Places.{Place, Fives};
 
 // The last router alive at or below a key: the page that it leads to, and the place at which the search for it ended.
@@ -31,14 +31,15 @@ pub struct Query {
     pub write: bool,
 }
 
-// Whether an entry is alive at v, and has its key from `low` on.
-fn alive_from(e: Entry, v: u32, low: u32) -> bool
-    ensures { λ r. ⌜ r ≡ (leb low (e .key) && liveAt v e) ⌝ }
+// Whether entry i is alive at v, and has its key from `low` on.
+fn alive_from(page: &[u8], i: usize, v: u32, low: u32) -> bool
+    requires { ⌜ (16 + 12 * i + 12 ≤ length (now page)) × (length (now page) ≤ 2 ^ 40) ⌝ }
+    ensures { λ r. ⌜ r ≡ (leb low (entry (now (page .entry)) i .key) && liveAt v (entry (now (page .entry)) i)) ⌝ }
 {
-    if e.key < low {
+    if page::words::first_word(page, i) < model::wide(low) * 256 {
         return false;
     }
-    page::alive_at(e, v)
+    page::words::alive_in(page, i, v)
 }
 
 // The place of the next entry, from i on, that is alive at v and has its key from low to high; n if there is none.
@@ -46,13 +47,13 @@ pub fn next_place(page: &[u8], n: usize, v: u32, low: u32, high: u32, i: usize) 
     requires { ⌜ Stands (now page) n × (i ≤ n) ⌝ }
     ensures { λ r. ⌜ Next (now (page .entry)) v low high i n r ⌝ }
 {
+    let above = model::wide(high) * 256 + 256;
     let mut k = i;
     while k < n {
-        let e = page::entry_at(page, k);
-        if high < e.key {
+        if above <= page::words::first_word(page, k) {
             return n;
         }
-        if alive_from(e, v, low) {
+        if alive_from(page, k, v, low) {
             return k;
         }
         k += 1;
@@ -65,7 +66,7 @@ fn under(page: &[u8], i: usize, k: u64) -> usize
     requires { ⌜ (16 + 12 * i + 12 ≤ length (now page)) × (length (now page) ≤ 2 ^ 40) × (k ≤ 2 ^ 32) ⌝ }
     ensures { λ r. ⌜ r ≡ pick (ltb (entry (now (page .entry)) i .key) k) 1 0 ⌝ }
 {
-    let w = bits::field(page, 128 + 96 * i, 32) as u64;
+    let w = bits::four(page, 16 + 12 * i) as u64;
     if w < k * 256 { 1 } else { 0 }
 }
 
@@ -106,18 +107,34 @@ fn place(page: &[u8], n: usize, k: u64) -> usize
     r
 }
 
+// The place of the entry of a key that is alive at v; n if there is none.
+pub(crate) fn place_of(page: &[u8], n: usize, v: u32, key: u32) -> usize
+    requires { ⌜ Stands (now page) n ⌝ }
+    ensures { λ r. ⌜ Next (now (page .entry)) v key key 0 n r ⌝ }
+{
+    let first = place(page, n, key as u64);
+    next_place(page, n, v, key, key, first)
+}
+
+// The answer of a lookup whose search ended at place i. An enum that a function gives back goes through memory: this one is short enough
+// to become part of its caller, where a search is not.
+pub(crate) fn answer_at(page: &[u8], n: usize, i: usize) -> Looked
+    requires { ⌜ Stands (now page) n ⌝ }
+    ensures { λ r. ⌜ r ≡ answerAt (now (page .entry)) n i ⌝ }
+{
+    if i < n {
+        return Looked::Value(page::words::value_in(page, i));
+    }
+    Looked::Absent
+}
+
 // The value of a key at v.
 pub fn find(page: &[u8], n: usize, v: u32, key: u32) -> Looked
     requires { ⌜ Stands (now page) n ⌝ }
     ensures { λ r. ⌜ r ≡ lookedAt (find key (live v (from (now (page .entry)) 0 n))) ⌝ }
 {
-    let first = place(page, n, key as u64);
-    let i = next_place(page, n, v, key, key, first);
-    if i < n {
-        let e = page::entry_at(page, i);
-        return Looked::Value(e.value);
-    }
-    Looked::Absent
+    let i = place_of(page, n, v, key);
+    answer_at(page, n, i)
 }
 
 // The last router alive at v at or below a key. There is one: the first router of a page has its low key.
@@ -129,10 +146,9 @@ pub fn own_router(page: &[u8], n: usize, v: u32, key: u32) -> Own
     let mut i = next;
     while 0 < i {
         i -= 1;
-        let e = page::entry_at(page, i);
-        if page::alive_at(e, v) {
+        if page::words::alive_in(page, i, v) {
             return Own {
-                page: e.value,
+                page: page::words::value_in(page, i),
                 next,
             };
         }

@@ -1,6 +1,6 @@
 -- Laws of bit fields. Assumes nothing.
 use Prim.Native.Nat.{ℕ, zero, suc, _+_, _*_, _-_, _/_, _%_, _^_, _≤_, _<_}
-use mathlib.Core.Path.{_≡_, refl, _∙_}
+use mathlib.Core.Path.{_≡_, refl, ap, _∙_}
 use mathlib.Core.List.{List}
 use lib.ListN.{getD}
 use lib.Pow.{pow-mono, shr-shr, high, low}
@@ -35,6 +35,10 @@ field-ext s t a b (suc n) h =
 -- a field of at most 32 bits fits a u32
 pub field-fits : (s : List ℕ) (at n : ℕ) → n ≤ 32 → field s at n < 2 ^ 32
 field-fits s at n h = omega (arith, field-lt s at n, pow-mono h)
+
+-- a field by its place in bytes
+pub field-bytes : (s : List ℕ) (k at n : ℕ) → 8 * k ≡ at → field s (8 * k) n ≡ field s at n
+field-bytes s k at n e = ap (λ (a : ℕ). field s a n) e
 
 -- bit j of byte k
 pub bit-in : (s : List ℕ) (k j : ℕ) → j < 8 → bitAt s (8 * k + j) ≡ bitOf (getD s k 0) j

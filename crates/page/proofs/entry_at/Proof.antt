@@ -1,5 +1,8 @@
 -- `page::entry_at` meets its contract: the words of the entry are read. Assumes nothing.
-use Prim.Native.Nat.{_+_, _*_}
+use Prim.Native.Nat.{ℕ, _+_, _*_}
+use mathlib.Core.Path.{_∙_}
+use native.Mathlib.Omega.{arith}
+use Rattle.bits.proofs.laws.Laws.{field-bytes}
 use Rattle.page.proofs.laws.ByWords.{words-entry}
 use borrow.Author.Needs.{needs}
 use Rattle.page.proofs.entry_at.Statement.{statement}
@@ -11,32 +14,36 @@ mul-o c = search needs
 add-o : tie.Need-add-o
 add-o c = search needs
 
-field-requires : tie.Need-field-requires
-field-requires c κs = search needs
+four-requires : tie.Need-four-requires
+four-requires c κs = search needs
 
-add-field : tie.Need-add-field
-add-field c = search needs
+add-four : tie.Need-add-four
+add-four c = search needs
 
-field-requires-2 : tie.Need-field-requires-2
-field-requires-2 c κs = search needs
+four-requires-2 : tie.Need-four-requires-2
+four-requires-2 c κs = search needs
 
 start-of-requires : tie.Need-start-of-requires
 start-of-requires c κs = search needs
 
-add-field-2 : tie.Need-add-field-2
-add-field-2 c = search needs
+add-four-2 : tie.Need-add-four-2
+add-four-2 c = search needs
 
-field-requires-3 : tie.Need-field-requires-3
-field-requires-3 c κs = search needs
+four-requires-3 : tie.Need-four-requires-3
+four-requires-3 c κs = search needs
 
 returns : tie.Need-returns
 returns c =
-    let at-field2 = c .before .before in
-    let at-field = at-field2 .before in
-    let at-start = at-field .before .before in
+    let at-four2 = c .before .before in
+    let at-four = at-four2 .before in
+    let at-start = at-four .before .before in
     let a = at-start .args in
-    words-entry (a .page .now) (128 + 96 * a .i) (at-field .field .result) (at-field2 .field2 .result) (c .before .start-of .result)
-    (c .field3 .result) (at-field .field .ensures) (at-field2 .field2 .ensures) (c .before .start-of .ensures) (c .field3 .ensures)
+    let o : ℕ = 128 + 96 * a .i in
+    words-entry (a .page .now) o (at-four .four .result) (at-four2 .four2 .result) (c .before .start-of .result) (c .four3 .result)
+    (at-four .four .ensures ∙ field-bytes (a .page .now) (16 + 12 * a .i) o 32 (omega arith))
+    (at-four2 .four2 .ensures ∙ field-bytes (a .page .now) (16 + 12 * a .i + 4) (o + 32) 32 (omega arith))
+    (c .before .start-of .ensures)
+    (c .four3 .ensures ∙ field-bytes (a .page .now) (16 + 12 * a .i + 8) (o + 64) 32 (omega arith))
 
 pub entry-at-spec : {M : Type 1} → statement M
 entry-at-spec =
@@ -44,10 +51,10 @@ entry-at-spec =
     (tie.spec
     mul-o
     add-o
-    field-requires
-    add-field
-    field-requires-2
+    four-requires
+    add-four
+    four-requires-2
     start-of-requires
-    add-field-2
-    field-requires-3
+    add-four-2
+    four-requires-3
     returns)

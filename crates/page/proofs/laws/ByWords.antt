@@ -36,6 +36,11 @@ module _ (p : List ℕ) (o : ℕ) where
   end-is : field p (o + 32) 32 % 1048576 ≡ field p (o + 44) 20
   end-is = ap (λ (x : ℕ). x % 1048576) second-is ∙ low (field p (o + 32) 12) 20 (field-lt p (o + 44) 20)
 
+  -- the byte that ends its first word, and its second word: its start and then its end, as one number
+  pub span-is : field p (o + 24) 8 * 4294967296 + field p (o + 32) 32 ≡ readEntry p o .start * 1048576 + readEntry p o .end
+  unfolding readEntry
+  span-is = omega (arith, between-is, second-is)
+
   abbrev pub byWords : ℕ → ℕ → ℕ → ℕ → Entry
   byWords a b start value = record { key = a / 256; start = start; end = b % 1048576; value = value }
 

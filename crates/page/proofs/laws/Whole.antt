@@ -1,17 +1,21 @@
 -- What the words of an entry tell without being taken apart, and an entry that is copied by them. Assumes nothing.
 use Prim.Native.Nat.{ℕ, _+_, _*_, _-_, _/_, _%_, _^_, _≤_, _<_}
 use native.Mathlib.Omega.{arith}
-use mathlib.Core.Path.{_≡_, refl, ap, sym, _∙_}
+use mathlib.Core.Bool.{false}
+use mathlib.Core.Path.{_≡_, refl, ap, ap₂, sym, _∙_}
 use mathlib.Core.Logic.{_⊎_, inl, inr}
 use mathlib.Core.List.{List}
+use lib.Dec.{ltb}
 use lib.ListN.{length}
+use borrow.Author.Tests.{le-leb, lt-leb}
 use Rattle.model.specs.declared.Entry.{Entry}
 use Rattle.model.specs.Field.{field, putField, Bytes, lay}
+use Rattle.model.specs.Entry.{liveAt}
 use Rattle.model.specs.Layout.{readEntry, entryParts}
 use Rattle.bits.proofs.laws.Laws.{field-lt}
 use Rattle.bits.proofs.laws.Whole.{put-own}
 use Rattle.page.specs.Apart.{Apart}
-use Rattle.page.proofs.laws.ByWords.{byWords, words-entry, words-lay}
+use Rattle.page.proofs.laws.ByWords.{byWords, words-entry, words-lay, span-is}
 use Rattle.page.proofs.laws.Read.{read-sized}
 
 module _ (p : List ℕ) (o a b : ℕ) (e : a ≡ field p o 32) (f : b ≡ field p (o + 32) 32) where
@@ -46,6 +50,20 @@ module _ (p : List ℕ) (o w b v : ℕ) (f : b ≡ field p (o + 32) 32) (q : v �
   pub apart : w < 2 ^ 20 → ((b + (1048576 - v)) % 1048576 ≡ 0 → ⊥) → (b < v % 4096 * 1048576) ⊎ (v % 4096 * 1048576 + 1048576 ≤ b)
       → Apart w (readEntry p o)
   apart hw n h = record { start = starts-off h; end = ends-off hw n }
+
+-- ---- whether it is alive, by its start and then its end as one number
+
+module _ (p : List ℕ) (o v a b w : ℕ) (e : a ≡ field p (o + 24) 8) (f : b ≡ field p (o + 32) 32) (q : w ≡ v) where
+  span : a * 4294967296 + b ≡ readEntry p o .start * 1048576 + readEntry p o .end
+  span = ap₂ (λ (x y : ℕ). x * 4294967296 + y) e f ∙ span-is p o
+
+  pub not-yet : w * 1048576 + 1048576 ≤ a * 4294967296 + b → false ≡ liveAt v (readEntry p o)
+  not-yet h = simp (lt-leb (readEntry p o .start) v (omega (arith, span, q, h, read-sized p o .end)))
+
+  pub by-end : a * 4294967296 + b < w * 1048576 + 1048576 → ltb w (b % 1048576) ≡ liveAt v (readEntry p o)
+  by-end h =
+      rw (le-leb (readEntry p o .start) v (omega (arith, span, q, h)))
+      (ap₂ ltb q (end-so p o (field p o 32) b refl f))
 
 -- ---- copied
 

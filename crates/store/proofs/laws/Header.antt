@@ -6,6 +6,7 @@ use mathlib.Core.List.{List, _++_}
 use native.Mathlib.Omega.{arith}
 use lib.Dec.{leb, eqb}
 use lib.ListN.{length, take, drop}
+use borrow.Author.Tests.{le-leb, lt-leb}
 use Rattle.bits.proofs.laws.Laws.{field-lt}
 use Rattle.bits.proofs.laws.Append.{field-left, field-part, bit-part}
 use Rattle.bits.proofs.laws.Lay.{Shows, Fit, total, length-lay, bytes-lay, length-packed, bytes-packed, packed-shows, packed-whole}
@@ -19,7 +20,7 @@ use Rattle.model.specs.Layout.{bit, headerParts, headerBytes, readHeader}
 use Rattle.model.proofs.lists.Bools.{bit-back}
 use Rattle.page.proofs.laws.Editions.{RootWidth, root-bits, Aged, oldest-bits}
 use Rattle.store.proofs.laws.Read.{pages-lt, current-lt, roots-lt, oldest-lt}
-use Rattle.store.specs.Header.{namedBy, valueParts, putHeader, HeaderFits}
+use Rattle.store.specs.Header.{namedBy, valueParts, putHeader, headerBy, HeaderFits}
 
 abbrev pub nameParts : ℕ → List Part
 nameParts least = namedBy (editionOf least)
@@ -27,6 +28,15 @@ nameParts least = namedBy (editionOf least)
 pub header-fits : (least : ℕ) (s : List ℕ) → HeaderFits least (readHeader least s)
 header-fits least s =
     record { pages = pages-lt least s; current = current-lt least s; roots = roots-lt least s; oldest = oldest-lt least s }
+
+-- read by the widths of edition 1, and of edition 2
+pub header-first : (least : ℕ) (s : List ℕ) → least ≤ 4 → headerBy 9 0 s ≡ readHeader least s
+unfolding headerBy readHeader
+header-first least s e = rw (le-leb least 4 e)
+
+pub header-second : (least : ℕ) (s : List ℕ) → 4 < least → headerBy 10 20 s ≡ readHeader least s
+unfolding headerBy readHeader
+header-second least s e = rw (lt-leb least 4 e)
 
 pub bit-small : (b : Bool) → bit b < 2 ^ 1
 bit-small true = omega arith

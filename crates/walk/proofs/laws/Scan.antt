@@ -5,8 +5,8 @@ use mathlib.Core.Bool.{Bool, true, false, _&&_}
 use mathlib.Core.Option.{Option, none, some}
 use mathlib.Core.Path.{_≡_, refl, ap, sym, _∙_}
 use mathlib.Core.List.{List, [], _∷_}
-use lib.Dec.{leb, eqb}
-use borrow.Author.Tests.{le-leb, leb-true, leb-false, eqb-true, eqb-false}
+use lib.Dec.{leb, eqb, ltb}
+use borrow.Author.Tests.{le-leb, leb-true, leb-false, eqb-true, eqb-false, ltb-true, ltb-false}
 use Rattle.model.specs.Basic.{inOrder, keep, pick}
 use Rattle.model.specs.declared.Pair.{Pair}
 use Rattle.model.specs.declared.Entry.{Entry}
@@ -14,13 +14,15 @@ use Rattle.model.specs.Entry.{pair, pairOf, liveAt, before}
 use Rattle.model.specs.Walk.{find, between, around, followed}
 use Rattle.model.specs.Layout.{readEntries}
 use Rattle.model.specs.Near.{startsBy}
+use Rattle.model.specs.Calls.{lookedAt}
+use Rattle.model.specs.declared.Looked.the-variants.{Value, Absent}
 use Rattle.model.proofs.lists.Lists.{both-true}
 use Rattle.page.proofs.laws.Read.{entries-step, entries-end}
 use Rattle.walk.specs.Live.{live}
 use Rattle.walk.proofs.laws.Live.{above, live-on, live-off, live-above, order-rest}
 use Rattle.walk.specs.Ends.{upto}
 use Rattle.walk.proofs.laws.Ends.{between-above, lead, lead-start, lead-on, lead-above, trail, trail-start, trail-on, trail-above}
-use Rattle.walk.specs.Scan.{entry, from, Owns}
+use Rattle.walk.specs.Scan.{entry, from, Next, answerAt, Owns}
 
 module _ (p : List ℕ) (n : ℕ) where
   pub from-start : readEntries p 128 n ≡ from p 0 n
@@ -110,6 +112,17 @@ find-found k x xs ys h = find-first k xs ∙ ap first h
 pub find-none : (k : ℕ) (xs : List Pair) → between k k xs ≡ [] → find k xs ≡ none
 unfolding first
 find-none k xs h = find-first k xs ∙ ap first h
+
+-- and where the search for a key ended tells its answer
+pub next-found : (p : List ℕ) (v k n i : ℕ) → Next p v k k 0 n i → answerAt p n i ≡ lookedAt (find k (live v (from p 0 n)))
+next-found p v k n i x = at (ltb i n) refl where
+  at : (b : Bool) → ltb i n ≡ b → pick b (Value (entry p i .value)) Absent ≡ lookedAt (find k (live v (from p 0 n)))
+  at true e =
+      sym (ap lookedAt (find-found k (pairOf (entry p i)) (live v (from p 0 n)) (between k k (live v (from p (i + 1) n)))
+      (x .same ∙ x .here (ltb-true i n e))))
+  at false e =
+      let here : i ≡ n = omega (arith, x .within, ltb-false i n e) in
+      sym (ap lookedAt (find-none k (live v (from p 0 n)) (rw here at (x .same) ∙ next-none p v k k n)))
 
 -- what the search has so far: before place i the last one leads to page c
 pub record Owning (p : List ℕ) (v k n i c : ℕ) : Type 0 where

@@ -1,6 +1,8 @@
 -- `page::words::copy_entry` meets its contract: the three words, put at the other place. Assumes nothing.
-use Prim.Native.Nat.{_+_, _*_}
+use Prim.Native.Nat.{ℕ, _+_, _*_}
 use mathlib.Core.Path.{_∙_}
+use native.Mathlib.Omega.{arith}
+use Rattle.bits.proofs.laws.Laws.{field-bytes}
 use Rattle.page.proofs.laws.Whole.{copy-lay}
 use borrow.Author.Needs.{needs}
 use Rattle.page.proofs.words.copy_entry.Statement.{statement}
@@ -12,20 +14,20 @@ mul-from c = search needs
 add-from : tie.Need-add-from
 add-from c = search needs
 
-field-requires : tie.Need-field-requires
-field-requires c κs = search needs
+four-requires : tie.Need-four-requires
+four-requires c κs = search needs
 
-add-field : tie.Need-add-field
-add-field c = search needs
+add-four : tie.Need-add-four
+add-four c = search needs
 
-field-requires-2 : tie.Need-field-requires-2
-field-requires-2 c κs = search needs
+four-requires-2 : tie.Need-four-requires-2
+four-requires-2 c κs = search needs
 
-add-field-2 : tie.Need-add-field-2
-add-field-2 c = search needs
+add-four-2 : tie.Need-add-four-2
+add-four-2 c = search needs
 
-field-requires-3 : tie.Need-field-requires-3
-field-requires-3 c κs = search needs
+four-requires-3 : tie.Need-four-requires-3
+four-requires-3 c κs = search needs
 
 mul-to : tie.Need-mul-to
 mul-to c = search needs
@@ -63,14 +65,17 @@ same-length c = search needs
 returns : tie.Need-returns
 returns c =
     let at-put-field = c .before .before .before .before .before .before .before .before .before .before in
-    let at-field3 = at-put-field .before .before in
-    let at-field2 = at-field3 .before .before in
-    let at-field = at-field2 .before .before in
-    let a = at-field .before .before .before .args in
+    let at-four3 = at-put-field .before .before in
+    let at-four2 = at-four3 .before .before in
+    let at-four = at-four2 .before .before in
+    let a = at-four .before .before .before .args in
+    let o : ℕ = 128 + 96 * a .i in
     c .before .before .put-field3 .ensures
     ∙ rw (c .before .before .before .before .before .before .put-field2 .ensures, at-put-field .put-field .ensures)
-    (copy-lay (a .page .now) (128 + 96 * a .i) (128 + 96 * a .j) (at-field .field .result) (at-field2 .field2 .result)
-    (at-field3 .field3 .result) (at-field .field .ensures) (at-field2 .field2 .ensures) (at-field3 .field3 .ensures))
+    (copy-lay (a .page .now) o (128 + 96 * a .j) (at-four .four .result) (at-four2 .four2 .result) (at-four3 .four3 .result)
+    (at-four .four .ensures ∙ field-bytes (a .page .now) (16 + 12 * a .i) o 32 (omega arith))
+    (at-four2 .four2 .ensures ∙ field-bytes (a .page .now) (16 + 12 * a .i + 4) (o + 32) 32 (omega arith))
+    (at-four3 .four3 .ensures ∙ field-bytes (a .page .now) (16 + 12 * a .i + 8) (o + 64) 32 (omega arith)))
 
 pub copy-entry-spec : {M : Type 1} → statement M
 copy-entry-spec =
@@ -78,11 +83,11 @@ copy-entry-spec =
     (tie.spec
     mul-from
     add-from
-    field-requires
-    add-field
-    field-requires-2
-    add-field-2
-    field-requires-3
+    four-requires
+    add-four
+    four-requires-2
+    add-four-2
+    four-requires-3
     mul-to
     add-to
     cast-put-field
