@@ -20,10 +20,10 @@ abbrev pub between : Limits → List ℕ → ℕ → ℕ → List Delta
 between l b u v = differ (settings (decode (l .least) b) u) (settings (decode (l .least) b) v)
 
 -- and what is left of it from a key on
-abbrev pub leftOf : Limits → List ℕ → ℕ → ℕ → ℕ → List Delta
+abbrev pub leftOf : (l : Limits) (b : List ℕ) (u v k : ℕ) → List Delta
 leftOf l b u v k = left (settings (decode (l .least) b) u) (settings (decode (l .least) b) v) k
 
 -- what two cursors at a key say
-abbrev pub nextOf : Limits → List ℕ → ℕ → ℕ → ℕ → Delta
+abbrev pub nextOf : (l : Limits) (b : List ℕ) (u v k : ℕ) → Delta
 nextOf l b u v k =
     compared (leads (atOrAbove k (settings (decode (l .least) b) u))) (leads (atOrAbove k (settings (decode (l .least) b) v)))

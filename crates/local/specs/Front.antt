@@ -8,7 +8,7 @@ use Rattle.model.specs.Basic.{pick}
 use Rattle.model.specs.Sound.{isPage}
 
 -- a slot has a version from low to top, and leads to a page
-abbrev pub slotFits : ℕ → ℕ → ℕ → Slot → Bool
+abbrev pub slotFits : (low top size : ℕ) (x : Slot) → Bool
 slotFits low top size x = leb low (x .version) && (leb (x .version) top && isPage size (x .root))
 
 -- the first version behind a slot's and behind the oldest

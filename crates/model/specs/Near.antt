@@ -48,13 +48,13 @@ module _ (least : ℕ) (b : List ℕ) (v : ℕ) where
   shown n = pairsAt v (page (decode least b .pages) n)
 
   -- "A lookup follows the last such router": the pages from n, `up` levels above the leaves, to the leaf for a key
-  unfoldable pub downRight : ℕ → ℕ → ℕ → Bool
+  unfoldable pub downRight : (up k n : ℕ) → Bool
   downRight zero k n = pageRight least b 1 n
   downRight (suc up) k n = pageRight least b (suc (suc up)) n && (startsBy k (shown n) && downRight up k (around k (shown n) .own .value))
 
   -- "a range does so for its low key, and follows every later router alive and at or below its high key, whose own low key is then the one
   -- its child must cover"
-  unfoldable pub rangeRight : ℕ → ℕ → ℕ → ℕ → Bool
+  unfoldable pub rangeRight : (up hi at n : ℕ) → Bool
   rangeRight zero hi at n = pageRight least b 1 n
   rangeRight (suc up) hi at n =
       pageRight least b (suc (suc up)) n
@@ -84,7 +84,7 @@ lookupNear least b k v =
     (lookup s k v)
 
 -- 14 comes last: it needs the whole walk
-unfoldable pub rangeNear : ℕ → List ℕ → ℕ → ℕ → ℕ → ℕ → Ranged
+unfoldable pub rangeNear : (least : ℕ) (b : List ℕ) (lo hi v room : ℕ) → Ranged
 rangeNear least b lo hi v room =
     let s = decode least b in
     rangedBy

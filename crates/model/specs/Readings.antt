@@ -31,7 +31,7 @@ leafPairs ks = map (λ (k : ℕ). pair k (k + 100)) ks
 abbrev pub ended : ℕ → ℕ → List Pair → List Entry
 ended a b ps = map (λ (p : Pair). record { key = p .key; start = a; end = b; value = p .value }) ps
 
-abbrev pub pageOver : ℕ → ℕ → ℕ → List Entry → Page
+abbrev pub pageOver : (level a b : ℕ) (es : List Entry) → Page
 pageOver level a b es = record { level = level; start = a; end = b; entries = es }
 
 -- pages 6 and on under an open update, and so many free ones; page 5 was version 0's root

@@ -8,9 +8,9 @@ use Rattle.model.specs.Basic.{all}
 use Rattle.spans.specs.Quick.{meets, liveCount}
 
 -- where the entry ends inside the stretch, m are alive
-abbrev pub endFine : ℕ → ℕ → ℕ → List Entry → Entry → Bool
+abbrev pub endFine : (m a b : ℕ) (es : List Entry) (e : Entry) → Bool
 endFine m a b es e = not (ltb a (e .end) && ltb (e .end) b) || leb m (liveCount (e .end) es)
 
 -- throughout the stretch the live keys are under h
-abbrev pub highOver : ℕ → ℕ → ℕ → List Entry → Bool
+abbrev pub highOver : (h a b : ℕ) (es : List Entry) → Bool
 highOver h a b es = all (λ (e : Entry). not (meets a b e) || ltb (e .key) h) es

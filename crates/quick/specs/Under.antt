@@ -15,9 +15,9 @@ wayIf true h a b e es =
     record { fine = ltb (e .key) h; from = min (min b (e .end)) (pastAll (max a (e .start)) es); upto = min b (e .end); page = e .value }
 wayIf false h a b e es = record { fine = true; from = 0; upto = 0; page = e .value }
 
-abbrev pub wayOf : ℕ → ℕ → ℕ → Entry → List Entry → Way
+abbrev pub wayOf : (h a b : ℕ) (e : Entry) (es : List Entry) → Way
 wayOf h a b e es = wayIf (meets a b e) h a b e es
 
 -- what is asked of page m, `up` levels above the leaves, by a key and a stretch
-abbrev pub underPage : ℕ → List Page → ℕ → ℕ → ℕ → ℕ → Bool
+abbrev pub underPage : (up : ℕ) (ps : List Page) (m h a b : ℕ) → Bool
 underPage up ps m h a b = under up ps h a b m
