@@ -141,6 +141,10 @@ abbrev pub spansMet : Store → ℕ → List Page → Bool
 spansMet s n [] = true
 spansMet s n (p ∷ ps) = (isFree p || eqb (ledTo s n) (p .end - max (s .oldest) (p .start))) && spansMet s (suc n) ps
 
+-- the sums and the slots: rule 6, once rules 4 and 5 hold
+abbrev pub ledRight : (least : ℕ) (s : Store) → Bool
+ledRight least s = spansMet s 5 (drop 5 (s .pages)) && slotsFine least (s .oldest) (s .pages) (s .slots)
+
 -- ---- all of it
 
 unfoldable pub quick : ℕ → Store → Bool
