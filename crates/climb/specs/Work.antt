@@ -1,9 +1,14 @@
 -- One page's work: what its values stand for, and the cases.
+use Prim.Native.Nat.{ℕ}
+use mathlib.Core.Path.{_≡_}
 use mathlib.Core.List.{List}
+use Rattle.model.specs.declared.Limits.{Limits}
 use Rattle.model.specs.Page.{Page}
 use Rattle.model.specs.Rules as rules
 use Rattle.edit.specs.Change.{changeOf}
 use Rattle.gather.specs.Kept.{Fits}
+use Rattle.parts.specs.Kept.{pagesOf}
+use Rattle.parts.specs.Becomes.{Becomes}
 use Rattle.climb.specs.declared.Worked.{Worked}
 use Rattle.climb.specs.declared.Worked.the-variants.{Settled, Upward, Lacking}
 
@@ -18,3 +23,7 @@ abbrev pub UpFits : Worked → Type 0
 UpFits Settled = Unit {0}
 UpFits (Upward c) = Fits c
 UpFits Lacking = Unit {0}
+
+-- the bytes of `b` become those of `b′` by what the page rules make of the pages, `x`, and what goes up fits
+abbrev pub Works : (l : Limits) (b b′ : List ℕ) (x : rules.Worked) (r : Worked) → Type 0
+Works l b b′ x r = (workedOf r (pagesOf l b′) ≡ x) × Becomes l b b′ (pagesOf l b′) × UpFits r
