@@ -1,19 +1,13 @@
 -- The difference of two versions of a sound store, as the code has it: key by key, four numbers each.
 use Prim.Native.Nat.{ℕ}
-use mathlib.Core.Path.{refl}
 use mathlib.Core.List.{List}
 use Rattle.model.specs.declared.Limits.{Limits}
 use Rattle.model.specs.Walk.{settings}
 use Rattle.model.specs.Layout.{decode}
 use Rattle.cursor.specs.First.{atOrAbove, leads}
 use Rattle.model.specs.declared.Delta.{Delta}
-use Rattle.model.specs.Differ.{differ, deltaNumbers}
-use Rattle.model.specs.Telling.{Shape}
+use Rattle.model.specs.Differ.{differ}
 use Rattle.differ.specs.Merge.{compared, left}
-
--- "Each takes four numbers"
-abbrev pub deltas : Shape Delta
-deltas = record { numbers = deltaNumbers; each = 4; size = λ d. refl }
 
 -- what differs between two versions of a store
 abbrev pub between : Limits → List ℕ → ℕ → ℕ → List Delta

@@ -17,11 +17,9 @@ use Rattle.model.specs.Histories.{Call, After, begins, commits, abandons
 use Rattle.model.specs.Replay.{History, gives, slots, root, pageIn, keys, leads, holding, span, freed, looks, ranges, bytesOf}
 use Rattle.model.specs.Table.{history, insertKey, twenty}
 use Rattle.model.specs.AlsoRun.{stops}
+use Rattle.model.specs.Figures.{slot}
 
 -- ---- stores from elsewhere
-
-abbrev pub slot : ℕ → ℕ → Slot
-slot v n = record { version = v; root = n }
 
 -- a leaf's pairs: a key's value is the key and 100
 abbrev pub leafPairs : List ℕ → List Pair
