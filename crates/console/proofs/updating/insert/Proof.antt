@@ -50,8 +50,8 @@ returns-2 c =
     let at-start = at-edition-one .before .before .before in
     let a = at-start .args in let r = c .before .before .before .insert in
     updated (λ (n : ℕ). insertLent n (storeIn (a .bytes .now) (a .pages)) (a .key) (a .value)) (at-edition-one .edition-one .result)
-    (r .result) (a .bytes .now) (r .last .0) (a .pages) (c .told2 .result) (at-edition-one .edition-one .ensures) (r .ensures) (c .told2 .ensures)
-    (omega arith) (omega arith) (c .before .before .bytes .given .0)
+    (r .result) (a .bytes .now) (r .last .0) (a .pages) (c .told2 .result) (at-edition-one .edition-one .ensures) (r .ensures)
+    (c .told2 .ensures) (omega arith) (omega arith) (c .before .before .bytes .given .0)
     (λ t. insert-stays (storeIn (a .bytes .now) (a .pages)) (at-start .pre .2 t) (a .key) (a .value) (omega arith))
 
 pub insert-spec : {M : Type 1} → statement M
