@@ -18,7 +18,7 @@ use Rattle.model.proofs.lists.Members.{all-at}
 use Rattle.model.proofs.older.Past.{bySlot}
 use Rattle.bits.proofs.laws.Laws.{field-split}
 use Rattle.store.proofs.laws.Read.{slots-at, length-slots, root-lt}
-use Rattle.walk.specs.Down.{Upto}
+use Rattle.walk.specs.Down.{SlotsUpto}
 
 -- ---- the leaf
 
@@ -98,7 +98,7 @@ module _ (b : List ℕ) (o v n : ℕ) where
     pub halved-high : low ≤ m → m < high → v < readSlot b (o + 32 * m) .version → Halved b o v n low m
     halved-high g l h = record { order = g; within = omega (arith, f .within); below = f .below; next = λ z. h }
 
-  pub halved-end : (low high : ℕ) → Halved b o v n low high → high ≤ low → Upto b o v n low
+  pub halved-end : (low high : ℕ) → Halved b o v n low high → high ≤ low → SlotsUpto b o v n low
   halved-end low high f l =
       let e : low ≡ high = omega (arith, f .order) in
       record { within = omega (arith, f .within); below = f .below; next = rw (← e) at (f .next) }
@@ -127,7 +127,7 @@ slots-rise b o (suc n) (suc i) d h l =
     rw (e, f) (slots-rise b (o + 32) n i d (both-true (all (bySlot (readSlot b o)) xs) (inOrder bySlot xs) h .1) (omega arith))
 
 -- so the last slot at or below v has the root of v
-module _ (b : List ℕ) (o v n r : ℕ) (h : inOrder bySlot (readSlots b o n) ≡ true) (u : Upto b o v n r) where
+module _ (b : List ℕ) (o v n r : ℕ) (h : inOrder bySlot (readSlots b o n) ≡ true) (u : SlotsUpto b o v n r) where
   behind : (d : ℕ) → r + d ≤ n → rootAt (readSlots b o (r + d)) v ≡ rootAt (readSlots b o r) v
   behind zero l = let e : r + 0 ≡ r = omega arith in rw e
   behind (suc d) l =
