@@ -16,5 +16,5 @@ abbrev pub highOver : (h a b : ℕ) (es : List Entry) → Bool
 highOver h a b es = all (λ (e : Entry). not (meets a b e) || ltb (e .key) h) es
 
 -- where the entry is alive in the stretch its key is under k, or it is at least k, as `under` says
-abbrev pub keyFine : Bool → ℕ → ℕ → ℕ → Entry → Bool
+abbrev pub keyFine : (under : Bool) (k a b : ℕ) (e : Entry) → Bool
 keyFine under k a b e = not (meets a b e) || pick under (ltb (e .key) k) (leb k (e .key))
