@@ -14,10 +14,9 @@ ghost use Rattle.model.specs.Rules.{regroup, work};
 ghost use Rattle.edit.specs.Change.{changeOf};
 ghost use Rattle.gather.specs.Kept.{Fits};
 ghost use Rattle.parts.specs.Kept.{ExactBytes, pagesOf};
-ghost use Rattle.parts.specs.Becomes.{Becomes};
 ghost use Rattle.group.specs.Group.{aroundOf, groupOf, Placed, Grouped};
 ghost use Rattle.plan.specs.Plan.{upsOf, Led};
-ghost use Rattle.climb.specs.Work.{workedOf, UpFits};
+ghost use Rattle.climb.specs.Work.{Works};
 ghost use Rattle.climb.specs.Climb.{climbUp};
 
 // What comes of a page that is not the root: it took the change in place, or its parent has a change to take, or a page is lacking.
@@ -30,8 +29,8 @@ pub enum Worked {
 // A group is rebuilt, and its parent has the routers to exchange; or a page is lacking.
 fn regroup(s: &mut [u8], l: Limits, w: u32, level: u32, g: Group, size: usize) -> Worked
     requires { ⌜ ExactBytes l (now s) × Grouped l (now s) g × (w < 2 ^ 20) × (level < 2 ^ 4) × (size ≡ length (pagesOf l (now s))) ⌝ }
-    ensures { λ r. ⌜ (workedOf r (pagesOf l (now (s .exit))) ≡ regroup (l .least) w level (pagesOf l (now (s .entry))) (groupOf g))
-        × Becomes l (now (s .entry)) (now (s .exit)) (pagesOf l (now (s .exit))) × UpFits r ⌝ }
+    ensures { λ r. ⌜ Works l (now (s .entry)) (now (s .exit))
+        (regroup (l .least) w level (pagesOf l (now (s .entry))) (groupOf g)) r ⌝ }
 {
     let u = group::usable(s, l, w, g.routers, size);
     let all = g.all;
@@ -46,8 +45,8 @@ fn regroup(s: &mut [u8], l: Limits, w: u32, level: u32, g: Group, size: usize) -
 // One page that is not the root.
 pub fn work(s: &mut [u8], l: Limits, w: u32, a: Around, c: Change, size: usize) -> Worked
     requires { ⌜ ExactBytes l (now s) × Placed l (now s) a × Fits c × (w < 2 ^ 20) × (size ≡ length (pagesOf l (now s))) ⌝ }
-    ensures { λ r. ⌜ (workedOf r (pagesOf l (now (s .exit))) ≡ work (l .least) w (pagesOf l (now (s .entry))) (aroundOf a) (changeOf c))
-        × Becomes l (now (s .entry)) (now (s .exit)) (pagesOf l (now (s .exit))) × UpFits r ⌝ }
+    ensures { λ r. ⌜ Works l (now (s .entry)) (now (s .exit))
+        (work (l .least) w (pagesOf l (now (s .entry))) (aroundOf a) (changeOf c)) r ⌝ }
 {
     let n = model::wide(a.own.value);
     if group::takes_in_place(s, l, n, w, c) {
@@ -63,8 +62,8 @@ pub fn work(s: &mut [u8], l: Limits, w: u32, a: Around, c: Change, size: usize) 
 // "Work goes from the leaf up", to below the root.
 pub fn climb_up(s: &mut [u8], l: Limits, w: u32, way: Way, c: Change, size: usize) -> Worked
     requires { ⌜ ExactBytes l (now s) × Led l (now s) way × Fits c × (w < 2 ^ 20) × (size ≡ length (pagesOf l (now s))) ⌝ }
-    ensures { λ r. ⌜
-        (workedOf r (pagesOf l (now (s .exit))) ≡ climbUp (l .least) w (upsOf (way .list) (way .n)) (changeOf c) (pagesOf l (now (s .entry)))) × Becomes l (now (s .entry)) (now (s .exit)) (pagesOf l (now (s .exit))) × UpFits r ⌝ }
+    ensures { λ r. ⌜ Works l (now (s .entry)) (now (s .exit))
+        (climbUp (l .least) w (upsOf (way .list) (way .n)) (changeOf c) (pagesOf l (now (s .entry)))) r ⌝ }
 {
     let list = way.list;
     let mut k = way.n;

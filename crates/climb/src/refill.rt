@@ -3,17 +3,17 @@ use group::Group;
 use group::Numbers;
 use group::Routers;
 use model::Limits;
-ghost use mathlib.Core.Path.{_≡_};
-ghost use Prim.Native.Nat.{_+_, _*_, _/_, _^_, _≤_, _<_};
-ghost use lib.ListN.{set, take, drop};
+ghost use Prim.Native.Nat.{_*_, _^_, _≤_, _<_};
+ghost use lib.ListN.{set, take};
 ghost use Rattle.model.specs.Page.{filled};
-ghost use Rattle.model.specs.Rules.{retire, usable, parts, rebuilt, rebuild, routersTo};
+ghost use Rattle.model.specs.Rules.{retire, usable};
 ghost use Rattle.model.specs.Needs.{fills};
 ghost use Rattle.gather.specs.Gather.{pairsIn};
 ghost use Rattle.parts.specs.Kept.{ExactBytes, Inside, pagesOf};
 ghost use Rattle.parts.specs.Becomes.{Becomes};
-ghost use Rattle.group.specs.Group.{routersOf, groupOf, Routed, Grouped};
+ghost use Rattle.group.specs.Group.{routersOf, Routed, Grouped};
 ghost use Rattle.group.specs.Numbers.{Numbered};
+ghost use Rattle.climb.specs.Work.{filledTwo, Rebuilds};
 
 // "An active page left over is freed and zeroed. Inactive pages gathered [..] are killed": all of them go, and the pages used are
 // filled after.
@@ -44,7 +44,7 @@ fn two_pages(s: &mut [u8], l: Limits, w: u32, level: u32, g: Group, to: usize, n
     requires { ⌜ ExactBytes l (now s) × Grouped l (now s) g × (w < 2 ^ 20) × (level < 2 ^ 4) × Inside l (now s) to
         × Inside l (now s) next ⌝ }
     ensures { λ _. ⌜ Becomes l (now (s .entry)) (now (s .exit))
-        (set (set (retire w (pagesOf l (now (s .entry))) (routersOf (g .routers))) to (filled w level (take ((g .all .n + 1) / 2) (pairsIn (g .all))))) next (filled w level (drop ((g .all .n + 1) / 2) (pairsIn (g .all))))) ⌝ }
+        (filledTwo w level (retire w (pagesOf l (now (s .entry))) (routersOf (g .routers))) g to next) ⌝ }
 {
     retire(s, l, w, g.routers);
     let all = g.all;
@@ -58,8 +58,7 @@ fn two_pages(s: &mut [u8], l: Limits, w: u32, level: u32, g: Group, to: usize, n
 pub fn rebuild(s: &mut [u8], l: Limits, w: u32, level: u32, g: Group, u: Numbers)
     requires { ⌜ ExactBytes l (now s) × Grouped l (now s) g × (w < 2 ^ 20) × (level < 2 ^ 4)
         × Numbered u (take 2 (usable w (pagesOf l (now s)) (routersOf (g .routers)))) × (fills (l .least) (pairsIn (g .all)) ≤ u .n) ⌝ }
-    ensures { λ _. ⌜
-        (rebuild (l .least) w level (pagesOf l (now (s .entry))) (groupOf g) ≡ rebuilt (pagesOf l (now (s .exit))) (routersTo (routersOf (g .routers)) (parts (l .least) (pairsIn (g .all))) (u .first) (u .second))) × Becomes l (now (s .entry)) (now (s .exit)) (pagesOf l (now (s .exit))) ⌝ }
+    ensures { λ _. ⌜ Rebuilds l (now (s .entry)) (now (s .exit)) w level g u ⌝ }
 {
     let all = g.all;
     if all.n <= l.full {

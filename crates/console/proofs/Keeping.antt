@@ -3,10 +3,12 @@ use Prim.Native.Nat.{ℕ, _*_, _%_, _<_, _≤_}
 use mathlib.Core.Path.{_≡_, refl, ap, sym, subst, _∙_}
 use mathlib.Core.Bool.{true}
 use mathlib.Core.List.{List, [], _∷_, _++_}
-use lib.ListN.{length, take}
+use lib.ListN.{length, take, drop}
 use lib.Seq.{take-at, length-take-le}
 use native.Mathlib.Omega.{arith}
 use borrow.Author.Tests.{le-leb, lt-leb}
+use Rattle.model.specs.declared.Limits.{Limits}
+use Rattle.model.specs.Limits.{limits, Edition}
 use Rattle.model.specs.Store.{Store, fresh}
 use Rattle.model.specs.Layout.{sizeOf, encode, decode}
 use Rattle.model.specs.Judged.{judged, isSound, lengthOk}
@@ -14,8 +16,8 @@ use Rattle.model.specs.Climb.{Result}
 use Rattle.model.specs.Calls.{insert, delete, begin, commit, abandon}
 use Rattle.model.specs.Lent.{Outcome, leaving, left, judgedFirst, lent, openLent, insertLent, deleteLent, commitLent, abandonLent}
 use Rattle.model.specs.Lent.{freshLent}
+use Rattle.page.proofs.laws.Editions.{edition-of}
 use Rattle.store.proofs.laws.Answers.{length-rest, done-store}
-use Rattle.lines.specs.declared.Answer.{Answer}
 use Rattle.lines.specs.declared.Answer.the-variants.{Done, Refused}
 use Rattle.lines.specs.Session.{Said, answered, outcome, stored, settings}
 use Rattle.console.specs.declared.Reply.{Reply}
@@ -30,21 +32,34 @@ front bytes pages h e = sym (length-take-le (pages * 256) bytes (omega arith))
 pub back : (q z : List ℕ) (pages : ℕ) → pages * 256 ≡ length q → storeIn (q ++ z) pages ≡ q
 back q z pages e = take-at q z (pages * 256) (sym e)
 
+-- what a call asks of the program, which is sure of a store that it has
+pub asks : (l : Limits) → l ≡ limits 4 → (bytes : List ℕ) (pages : ℕ) → Sure bytes pages → 0 < pages
+    → Edition l × (true ≡ true → isSound (l .least) (storeIn bytes pages) ≡ true)
+asks l e bytes pages s h =
+    (edition-of 4 e (omega arith) (omega arith), λ t. rw (ap (λ (x : Limits). x .least) e) (s h))
+
 -- a call that changes the store
-pub updated : (o : Outcome) (n pages : ℕ) (q z : List ℕ) (a : Answer) → leaving n q ≡ o → a ≡ answered n → pages * 256 ≡ length q
-    → pages ≤ 256
-    → (0 < pages → isSound 4 (o .store) ≡ true) → Single (outcome o) (q ++ z) (record { pages = pages; answer = a; count = 0 })
-updated o n pages q z a e f g h stays =
+pub updated : (o : ℕ → Outcome) (l : Limits) (n : ℕ) (bytes q : List ℕ) (pages : ℕ) (r : Reply) → l ≡ limits 4 → leaving n q ≡ o (l .least)
+    → r ≡ record { pages = pages; answer = answered n; count = 0 } → pages ≤ 256 → length bytes ≡ 65536
+    → length q ≡ length (storeIn bytes pages) → (0 < pages → isSound 4 (o 4 .store) ≡ true)
+    → Single (outcome (o 4)) (q ++ drop (pages * 256) bytes) r
+updated o l n bytes q pages r one e f h long same stays =
+    let g : pages * 256 ≡ length q = front bytes pages h long ∙ sym same in
+    let at : storeIn (q ++ drop (pages * 256) bytes) pages ≡ q = back q (drop (pages * 256) bytes) pages g in
+    let left : leaving n q ≡ o 4 = e ∙ ap (λ (x : Limits). o (x .least)) one in
     subst
-    (λ (x : Outcome). Single (outcome x) (q ++ z) (record { pages = pages; answer = a; count = 0 }))
-    e
+    (λ (x : Reply). Single (outcome (o 4)) (q ++ drop (pages * 256) bytes) x)
+    (sym f)
+    (subst
+    (λ (x : Outcome). Single (outcome x) (q ++ drop (pages * 256) bytes) (record { pages = pages; answer = answered n; count = 0 }))
+    left
     (record {
-      store = back q z pages g;
-      answers = ap (λ (x : Answer). x ∷ []) (sym f);
+      store = at;
+      answers = refl;
       alone = refl;
       pages = h;
-      sure = λ t. subst (λ (b : List ℕ). isSound 4 b ≡ true) (sym (back q z pages g ∙ ap (λ (x : Outcome). x .store) e)) (stays t);
-    })
+      sure = λ t. subst (λ (b : List ℕ). isSound 4 b ≡ true) (sym (at ∙ ap (λ (x : Outcome). x .store) left)) (stays t);
+    }))
 
 -- ---- before an accepted `store`
 
@@ -56,37 +71,32 @@ none-lent : (f : Store → Result) → lent 4 f [] ≡ leaving 1 []
 unfolding lent
 none-lent f = ap (λ (n : ℕ). judgedFirst n (λ (m : ℕ). leaving m []) (left 4 [] (f (decode 4 [])))) judged-none
 
-module _ (bytes : List ℕ) (pages : ℕ) (z : pages ≡ 0) where
-  none-kept : (f : Store → Result) → Single (outcome (lent 4 f (storeIn bytes pages))) bytes
-      (record { pages = pages; answer = Refused 1; count = 0 })
+module _ (bytes : List ℕ) (pages : ℕ) (z : pages ≡ 0) (r : Reply) (e : r ≡ record { pages = pages; answer = Refused 1; count = 0 }) where
+  none-kept : (f : Store → Result) → Single (outcome (lent 4 f (storeIn bytes pages))) bytes r
   none-kept f =
-      subst
-      (λ (p : ℕ). Single (outcome (lent 4 f (storeIn bytes p))) bytes (record { pages = p; answer = Refused 1; count = 0 }))
-      (sym z)
+      rw (e, z)
       (subst
       (λ (o : Outcome). Single (outcome o) bytes (record { pages = 0; answer = Refused 1; count = 0 }))
       (sym (none-lent f))
       (record { store = refl; answers = refl; alone = refl; pages = omega arith; sure = λ t. absurd (omega arith) }))
 
-  pub open-none : Single (outcome (openLent 4 (storeIn bytes pages))) bytes (record { pages = pages; answer = Refused 1; count = 0 })
+  pub open-none : Single (outcome (openLent 4 (storeIn bytes pages))) bytes r
   unfolding openLent
   open-none = none-kept begin
 
-  pub commit-none : Single (outcome (commitLent 4 (storeIn bytes pages))) bytes (record { pages = pages; answer = Refused 1; count = 0 })
+  pub commit-none : Single (outcome (commitLent 4 (storeIn bytes pages))) bytes r
   unfolding commitLent
   commit-none = none-kept commit
 
-  pub abandon-none : Single (outcome (abandonLent 4 (storeIn bytes pages))) bytes (record { pages = pages; answer = Refused 1; count = 0 })
+  pub abandon-none : Single (outcome (abandonLent 4 (storeIn bytes pages))) bytes r
   unfolding abandonLent
   abandon-none = none-kept abandon
 
-  pub insert-none : (k x : ℕ) → Single (outcome (insertLent 4 (storeIn bytes pages) k x)) bytes
-      (record { pages = pages; answer = Refused 1; count = 0 })
+  pub insert-none : (k x : ℕ) → Single (outcome (insertLent 4 (storeIn bytes pages) k x)) bytes r
   unfolding insertLent
   insert-none k x = none-kept (λ (s : Store). insert 4 s k x)
 
-  pub delete-none : (k : ℕ) → Single (outcome (deleteLent 4 (storeIn bytes pages) k)) bytes
-      (record { pages = pages; answer = Refused 1; count = 0 })
+  pub delete-none : (k : ℕ) → Single (outcome (deleteLent 4 (storeIn bytes pages) k)) bytes r
   unfolding deleteLent
   delete-none k = none-kept (λ (s : Store). delete 4 s k)
 

@@ -5,17 +5,8 @@ ghost use lib.ListN.{length};
 ghost use Rattle.lines.specs.Session.{stored};
 ghost use Rattle.console.specs.Obeys.{storeIn, Sure, Single};
 use crate::Reply;
+use crate::updating::told;
 use lines::Answer;
-
-fn refused(pages: usize) -> Reply
-    ensures { λ r. ⌜ r ≡ record { pages = pages; answer = Answer.Refused 1; count = 0 } ⌝ }
-{
-    Reply {
-        pages,
-        answer: Answer::Refused(1),
-        count: 0,
-    }
-}
 
 // "for N outside 6 to 256 (an earlier store stays), the answer is `refused 1`"
 pub(crate) fn make(n: u32, pages: usize, bytes: &mut [u8]) -> Reply
@@ -23,10 +14,10 @@ pub(crate) fn make(n: u32, pages: usize, bytes: &mut [u8]) -> Reply
     ensures { λ r. ⌜ Single (stored 4 (storeIn (now (bytes .entry)) pages) n) (now (bytes .exit)) r ⌝ }
 {
     if n < 6 {
-        return refused(pages);
+        return told(pages, 1);
     }
     if 256 < n {
-        return refused(pages);
+        return told(pages, 1);
     }
     let made = n as usize;
     let e = made * 256;

@@ -8,7 +8,6 @@ ghost use Prim.Native.Nat.{_+_, _-_, _^_, _≤_, _<_};
 ghost use Rattle.model.specs.Limits.{Edition};
 ghost use Rattle.model.specs.Layout.{readHeader, decode, encode};
 ghost use Rattle.model.specs.Judged.{isSound};
-ghost use Rattle.model.specs.Convert.{replay};
 ghost use Rattle.notes.specs.Ready.{BehindUpto, QuietSlots};
 ghost use Rattle.convert.specs.Version.{Replaying};
 ghost use Rattle.convert.specs.Skip.{moved, Still, Skipped};

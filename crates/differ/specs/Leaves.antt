@@ -18,7 +18,7 @@ abbrev pub asked : List ℕ → ℕ → List ℕ → ℕ → Ask → List Delta
 asked p m q n a = differ (rest p m (a .old) (a .low) (a .high) 0) (rest q n (a .new) (a .low) (a .high) 0)
 
 -- the stretch of a leaf at a version
-abbrev pub inLeaf : Limits → List ℕ → ℕ → ℕ → ℕ → Under → List Pair
+abbrev pub inLeaf : (l : Limits) (b : List ℕ) (v lo hi : ℕ) (x : Under) → List Pair
 inLeaf l b v lo hi x = between lo hi (pairsAt v (page (decode (l .least) b .pages) (x .page)))
 
 abbrev pub inLeaves : Limits → List ℕ → Ask → Under → Under → List Delta

@@ -14,7 +14,7 @@ use Rattle.cursor.specs.First.{leads}
 use Rattle.differ.specs.declared.leaves.Side.{Side}
 
 -- the settings from lo to hi alive at v, from place i on among n entries
-abbrev pub rest : List ℕ → ℕ → ℕ → ℕ → ℕ → ℕ → List Pair
+abbrev pub rest : (p : List ℕ) (n v lo hi i : ℕ) → List Pair
 rest p n v lo hi i = between lo hi (live v (from p i n))
 
 -- settings that stand by key

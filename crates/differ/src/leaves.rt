@@ -12,12 +12,11 @@ ghost use Rattle.walk.specs.Scan.{Stands, from};
 ghost use Rattle.walk.specs.Sure.{Walkable};
 ghost use Rattle.cursor.specs.First.{atOrAbove};
 ghost use Rattle.cursor.specs.Leaf.{Below};
-ghost use Rattle.differ.specs.Listing.{deltas};
 ghost use Rattle.differ.specs.Side.{rest, At, Ordered};
 ghost use Rattle.differ.specs.Quiet.{moves, quiet};
 ghost use Rattle.differ.specs.Leaves.{asked, inLeaves};
 ghost use Rattle.model.specs.Inner.{rising};
-ghost use Rattle.model.specs.Telling.{Space, Gathers};
+ghost use Rattle.model.specs.Telling.{Space, Gathers, deltas};
 
 // "Keys are 0 to 16,777,215".
 const KEYS: u32 = 16777216;

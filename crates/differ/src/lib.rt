@@ -16,11 +16,11 @@ ghost use Rattle.model.specs.Walk.{keyLimit};
 ghost use Rattle.model.specs.Told.{toldBy};
 ghost use Rattle.model.specs.Differ.{deltaNumbers};
 ghost use Rattle.model.specs.Lent.{listed};
-ghost use Rattle.model.specs.Telling.{Space, Gathers};
+ghost use Rattle.model.specs.Telling.{Space, Gathers, deltas};
 ghost use Rattle.walk.specs.Counted.{withList};
 ghost use Rattle.walk.specs.Sure.{Walkable};
 ghost use Rattle.differ.specs.Merge.{Onward};
-ghost use Rattle.differ.specs.Listing.{deltas, between, leftOf, nextOf};
+ghost use Rattle.differ.specs.Listing.{between, leftOf, nextOf};
 
 // "Keys are 0 to 16,777,215".
 const KEYS: u32 = 16777216;

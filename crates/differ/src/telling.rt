@@ -7,8 +7,7 @@ ghost use mathlib.Core.List.{[], _∷_};
 ghost use Prim.Native.Nat.{_+_, _*_, _≤_};
 ghost use lib.ListN.{length};
 ghost use Rattle.differ.specs.Merge.{compared, told};
-ghost use Rattle.differ.specs.Listing.{deltas};
-ghost use Rattle.model.specs.Telling.{written, Space, Gathers};
+ghost use Rattle.model.specs.Telling.{written, Space, Gathers, deltas};
 
 // What two cursors say of the smaller of their keys; 3 where both have it with one value.
 pub fn compared(x: Pair, y: Pair) -> Delta

@@ -12,7 +12,7 @@ use Rattle.edit.specs.declared.sift.Rule.{Rule}
 use Rattle.edit.specs.declared.sift.Rule.the-variants.{Kill, End, Back}
 use Rattle.edit.specs.declared.sift.Fate.{Fate}
 
-abbrev pub amongOf : ℕ → ℕ → ℕ → ℕ → Bool
+abbrev pub amongOf : (k n a b : ℕ) → Bool
 amongOf k n a b = (leb 1 n && eqb k a) || (leb 2 n && eqb k b)
 
 abbrev pub endIf : Bool → ℕ → Entry → Fate

@@ -18,6 +18,7 @@ ghost use Rattle.model.specs.Layout.{encodePage, decodePage};
 ghost use Rattle.page.specs.Exact.{Exact};
 ghost use Rattle.edit.specs.Change.{changeOf, first};
 ghost use Rattle.edit.specs.Fill.{nil, Fitting};
+ghost use Rattle.edit.specs.Sift.{freedOrSifted};
 
 // A change to a page: the keys that end, the first `drops` of two, and the pairs that come in, the first `takes` of two.
 pub struct Change {
@@ -41,17 +42,25 @@ pub fn either(a: bool, b: bool) -> bool
     if a { true } else { b }
 }
 
-// A page that goes: an active one is freed, another killed.
-pub fn go(page: &mut [u8], l: Limits, w: u32)
+// An active page is freed, another put under the rule.
+fn free_or_sift(page: &mut [u8], l: Limits, rule: sift::Rule, w: u32)
     requires { ⌜ Edition l × Exact (l .least) (now page) × (w < 2 ^ 20) ⌝ }
-    ensures { λ _. ⌜ now (page .exit) ≡ encodePage (l .least) (gone w (decodePage (l .least) (now (page .entry)))) ⌝ }
+    ensures { λ _. ⌜ now (page .exit) ≡ encodePage (l .least) (freedOrSifted rule w (decodePage (l .least) (now (page .entry)))) ⌝ }
 {
     let h = page::head_of(page, l);
     if h.start == w {
         page::clear(page);
     } else {
-        sift::sift(page, l, sift::Rule::Kill, w);
+        sift::sift(page, l, rule, w);
     }
+}
+
+// A page that goes: an active one is freed, another killed.
+pub fn go(page: &mut [u8], l: Limits, w: u32)
+    requires { ⌜ Edition l × Exact (l .least) (now page) × (w < 2 ^ 20) ⌝ }
+    ensures { λ _. ⌜ now (page .exit) ≡ encodePage (l .least) (gone w (decodePage (l .least) (now (page .entry)))) ⌝ }
+{
+    free_or_sift(page, l, sift::Rule::Kill, w);
 }
 
 // What an abandon makes of a page.
@@ -59,12 +68,7 @@ pub fn undo(page: &mut [u8], l: Limits, w: u32)
     requires { ⌜ Edition l × Exact (l .least) (now page) × (w < 2 ^ 20) ⌝ }
     ensures { λ _. ⌜ now (page .exit) ≡ encodePage (l .least) (back w (decodePage (l .least) (now (page .entry)))) ⌝ }
 {
-    let front = page::head_of(page, l);
-    if front.start == w {
-        page::clear(page);
-    } else {
-        sift::sift(page, l, sift::Rule::Back, w);
-    }
+    free_or_sift(page, l, sift::Rule::Back, w);
 }
 
 // The keys that a change drops end. Where it drops none the page stays as it is, and nothing is written.

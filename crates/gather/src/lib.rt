@@ -6,7 +6,7 @@ ghost use mathlib.Core.Path.{_≡_};
 ghost use mathlib.Core.List.{[], _∷_, _++_};
 ghost use Prim.Native.Nat.{_+_, _-_, _≤_, _<_};
 ghost use lib.ListN.{length, take, drop};
-ghost use Rattle.model.specs.Basic.{has, keep};
+ghost use Rattle.model.specs.Basic.{has};
 ghost use Rattle.model.specs.Entry.{enterPair};
 ghost use Rattle.model.specs.Page.{wanted, changed, pairsAt};
 ghost use Rattle.model.specs.Layout.{decodePage};

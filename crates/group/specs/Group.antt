@@ -33,6 +33,10 @@ routersOf r = oneOrTwo (r .two) (r .first) (r .second)
 unfoldable pub groupOf : Group → rules.Group
 groupOf g = record { routers = routersOf (g .routers); pairs = pairsIn (g .all) }
 
+-- "takes one for each page now used": the routers to the pages `first` and `second`
+abbrev pub routersNow : (l : Limits) (g : Group) (first second : ℕ) → List Pair
+routersNow l g first second = rules.routersTo (routersOf (g .routers)) (rules.parts (l .least) (pairsIn (g .all))) first second
+
 -- ---- they lead to pages of the store
 
 pub record Router (l : Limits) (b : List ℕ) (x : Pair) : Type 0 where

@@ -10,17 +10,17 @@ ghost use mathlib.Core.Bool.{not};
 ghost use Prim.Native.Nat.{_^_, _<_};
 ghost use Rattle.model.specs.Basic.{any, pick};
 ghost use Rattle.model.specs.Limits.{Edition};
-ghost use Rattle.model.specs.Rules.{samePair, parts, exchange, routersTo};
+ghost use Rattle.model.specs.Rules.{samePair, exchange};
 ghost use Rattle.edit.specs.Change.{one, changeOf};
 ghost use Rattle.edit.specs.Fill.{Fitting};
-ghost use Rattle.gather.specs.Gather.{Good, pairsIn};
+ghost use Rattle.gather.specs.Gather.{Good};
 ghost use Rattle.gather.specs.Kept.{Fits};
-ghost use Rattle.group.specs.Group.{routersOf};
+ghost use Rattle.group.specs.Group.{routersOf, routersNow};
 
 // The routers that lead to the pages now used. "The first new low key is the lowest old one; the second is the second page's first key."
 pub fn routers_to(g: Group, l: Limits, first: usize, second: usize) -> Routers
     requires { ⌜ Edition l × Good (g .all) × Fitting (g .routers .first) × (first < 2 ^ 32) × (second < 2 ^ 32) ⌝ }
-    ensures { λ r. ⌜ (routersOf r ≡ routersTo (routersOf (g .routers)) (parts (l .least) (pairsIn (g .all))) first second)
+    ensures { λ r. ⌜ (routersOf r ≡ routersNow l g first second)
         × Fitting (r .first) × Fitting (r .second) ⌝ }
 {
     let key = g.routers.first.key;
@@ -113,8 +113,7 @@ fn exchange(olds: Routers, news: Routers) -> Change
 // What the parent of a group has to change when its pages are now these.
 pub fn parent_change(g: Group, l: Limits, u: Numbers) -> Change
     requires { ⌜ Edition l × Good (g .all) × Fitting (g .routers .first) × (u .first < 2 ^ 32) × (u .second < 2 ^ 32) ⌝ }
-    ensures { λ r. ⌜
-        (changeOf r ≡ exchange (routersOf (g .routers)) (routersTo (routersOf (g .routers)) (parts (l .least) (pairsIn (g .all))) (u .first) (u .second))) × Fits r ⌝ }
+    ensures { λ r. ⌜ (changeOf r ≡ exchange (routersOf (g .routers)) (routersNow l g (u .first) (u .second))) × Fits r ⌝ }
 {
     let rs = g.routers;
     exchange(rs, routers_to(g, l, u.first, u.second))

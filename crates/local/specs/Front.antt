@@ -1,14 +1,23 @@
--- The used slots of the root directory, each looked at once: what rule 1 and rule 2 say of them together.
+-- The header, and the used slots of the root directory, each looked at once: what rule 1 and rule 2 say of them together.
 use Prim.Native.Nat.{ℕ, suc}
 use mathlib.Core.Bool.{Bool, true, _&&_}
 use mathlib.Core.List.{List, [], _∷_}
 use lib.Dec.{leb}
 use Rattle.model.specs.declared.Slot.{Slot}
 use Rattle.model.specs.Basic.{pick}
+use Rattle.model.specs.Store.{last}
 use Rattle.model.specs.Sound.{isPage}
+use Rattle.model.specs.Layout.{decode}
+use Rattle.model.specs.Clean.{cleanFront}
+
+-- the header's fields and zero bits, the unused slots, the last version and the oldest
+abbrev pub fieldsRight : ℕ → List ℕ → Bool
+fieldsRight least b =
+    let s = decode least b in
+    cleanFront least b && leb (last s) 1048574 && leb (s .oldest) (pick (leb least 4) 0 (s .current))
 
 -- a slot has a version from low to top, and leads to a page
-abbrev pub slotFits : ℕ → ℕ → ℕ → Slot → Bool
+abbrev pub slotFits : (low top size : ℕ) (x : Slot) → Bool
 slotFits low top size x = leb low (x .version) && (leb (x .version) top && isPage size (x .root))
 
 -- the first version behind a slot's and behind the oldest

@@ -71,11 +71,11 @@ pub record Held (least : ℕ) (s : List ℕ) (h : Header) : Type 0 where
 -- ---- what is tested
 
 -- the entries of a page: l is the last version
-abbrev pub entriesOk : ℕ → ℕ → ℕ → List Entry → Bool
+abbrev pub entriesOk : (l size level : ℕ) (es : List Entry) → Bool
 entriesOk l size level es = inOrder before es && all (entryOk l size level) es
 
 -- so many pages from page n on
-unfoldable pub pagesFine : ℕ → ℕ → ℕ → List ℕ → ℕ → ℕ → Bool
+unfoldable pub pagesFine : (least l size : ℕ) (s : List ℕ) (n k : ℕ) → Bool
 pagesFine least l size s n k = cleanPages least s n k && all (pageFine least l size) (readPages least s n k)
 
 -- the slots of the root directory

@@ -3,10 +3,7 @@ use model::Limits;
 ghost use mathlib.Core.Path.{_≡_};
 ghost use Prim.Native.Nat.{_*_, _≤_};
 ghost use Rattle.model.specs.Limits.{Edition};
-ghost use mathlib.Core.Bool.{true};
-ghost use lib.Dec.{leb};
-ghost use Rattle.model.specs.Basic.{pick};
-ghost use Rattle.model.specs.Layout.{readSlots, decode};
+ghost use Rattle.model.specs.Layout.{readSlots};
 ghost use Rattle.model.specs.Clean.{clean};
 ghost use Rattle.local.specs.Local.{Sized};
 ghost use Rattle.local.specs.First.{rooted};
@@ -27,35 +24,17 @@ pub(crate) fn roots_ok(s: &[u8], l: Limits, roots: usize, size: usize) -> bool
     true
 }
 
-// Rule 1 of lent bytes, which make `size` pages, where the oldest version is right.
-fn first_rest(s: &[u8], l: Limits, size: usize) -> bool
-    requires { ⌜ Edition l × Sized (l .least) (now s) size
-        × (leb (decode (l .least) (now s) .oldest) (pick (leb (l .least) 4) 0 (decode (l .least) (now s) .current)) ≡ true) ⌝ }
-    ensures { λ r. ⌜ r ≡ clean (l .least) (now (s .entry)) ⌝ }
-{
-    let h = store::header(s, l);
-    if !crate::front::header_right(s, l, h, size) {
-        return false;
-    }
-    let last = h.last();
-    if 1048574 < last {
-        return false;
-    }
-    if !roots_ok(s, l, model::wide(h.roots), size) {
-        return false;
-    }
-    crate::pages::pages_ok(s, l, size, last)
-}
-
 // Rule 1 of lent bytes, which make `size` pages.
 pub fn first_rule(s: &[u8], l: Limits, size: usize) -> bool
     requires { ⌜ Edition l × Sized (l .least) (now s) size ⌝ }
     ensures { λ r. ⌜ r ≡ clean (l .least) (now (s .entry)) ⌝ }
 {
-    let h = store::header(s, l);
-    let most = crate::front::oldest_most(l, h);
-    if most < h.oldest {
+    if !crate::front::fields_right(s, l, size) {
         return false;
     }
-    first_rest(s, l, size)
+    let h = store::header(s, l);
+    if !roots_ok(s, l, model::wide(h.roots), size) {
+        return false;
+    }
+    crate::pages::pages_ok(s, l, size, h.last())
 }

@@ -4,14 +4,13 @@ use model::Limits;
 use model::Slot;
 ghost use mathlib.Core.Path.{_≡_};
 ghost use Prim.Native.Nat.{_+_, _*_, _≤_};
-ghost use mathlib.Core.Bool.{true};
 ghost use lib.Dec.{leb};
 ghost use Rattle.model.specs.Basic.{pick};
 ghost use Rattle.model.specs.Limits.{Edition, rootBits, oldestBits};
-ghost use Rattle.model.specs.Layout.{readHeader, readSlots, decode};
+ghost use Rattle.model.specs.Layout.{readHeader, readSlots};
 ghost use Rattle.model.specs.Clean.{cleanFront};
 ghost use Rattle.local.specs.Local.{Sized};
-ghost use Rattle.local.specs.Front.{above, slotFits, slotsFrom};
+ghost use Rattle.local.specs.Front.{above, fieldsRight, slotFits, slotsFrom};
 ghost use Rattle.model.specs.Near.{frontRight};
 
 // The bits of the header that are defined.
@@ -23,7 +22,7 @@ fn header_bits(l: Limits) -> usize
 }
 
 // The latest version that the oldest may be: "at most the current version", and 0 in edition 1.
-pub(crate) fn oldest_most(l: Limits, h: Header) -> u32
+fn oldest_most(l: Limits, h: Header) -> u32
     ensures { λ r. ⌜ r ≡ pick (leb (l .least) 4) 0 (h .current) ⌝ }
 {
     if l.least <= 4 {
@@ -33,7 +32,7 @@ pub(crate) fn oldest_most(l: Limits, h: Header) -> u32
 }
 
 // The header's page count and undefined bits, the number of roots, and the unused slots.
-pub(crate) fn header_right(s: &[u8], l: Limits, h: Header, size: usize) -> bool
+fn header_right(s: &[u8], l: Limits, h: Header, size: usize) -> bool
     requires { ⌜ Edition l × Sized (l .least) (now s) size × (h ≡ readHeader (l .least) (now s)) ⌝ }
     ensures { λ r. ⌜ r ≡ cleanFront (l .least) (now (s .entry)) ⌝ }
 {
@@ -49,6 +48,21 @@ pub(crate) fn header_right(s: &[u8], l: Limits, h: Header, size: usize) -> bool
         return false;
     }
     crate::pages::zero_from(s, front + 32 * roots, 5 * front)
+}
+
+// All that rule 1 says of the header and of the unused slots, in bytes that make `size` pages.
+pub(crate) fn fields_right(s: &[u8], l: Limits, size: usize) -> bool
+    requires { ⌜ Edition l × Sized (l .least) (now s) size ⌝ }
+    ensures { λ r. ⌜ r ≡ fieldsRight (l .least) (now (s .entry)) ⌝ }
+{
+    let h = store::header(s, l);
+    if !header_right(s, l, h, size) {
+        return false;
+    }
+    if 1048574 < h.last() {
+        return false;
+    }
+    h.oldest <= oldest_most(l, h)
 }
 
 // A slot with a version from low to top that leads to a page.
@@ -96,36 +110,18 @@ fn slots_right(s: &[u8], l: Limits, roots: usize, old: u32, last: u32, size: usi
     true
 }
 
-// Whether header and slots are right in bytes that make `size` pages, where the oldest version is.
-fn front_rest(s: &[u8], l: Limits, size: usize) -> bool
-    requires { ⌜ Edition l × Sized (l .least) (now s) size
-        × (leb (decode (l .least) (now s) .oldest) (pick (leb (l .least) 4) 0 (decode (l .least) (now s) .current)) ≡ true) ⌝ }
-    ensures { λ r. ⌜ r ≡ frontRight (l .least) (now (s .entry)) ⌝ }
-{
-    let h = store::header(s, l);
-    if !header_right(s, l, h, size) {
-        return false;
-    }
-    let last = h.last();
-    if 1048574 < last {
-        return false;
-    }
-    let roots = model::wide(h.roots);
-    if roots == 0 {
-        return false;
-    }
-    slots_right(s, l, roots, h.oldest, last, size)
-}
-
 // "the header, a directory slot .. breaks rules 1 or 2 of 01 locally": whether none does, in bytes that make `size` pages.
 pub fn front_right(s: &[u8], l: Limits, size: usize) -> bool
     requires { ⌜ Edition l × Sized (l .least) (now s) size ⌝ }
     ensures { λ r. ⌜ r ≡ frontRight (l .least) (now (s .entry)) ⌝ }
 {
-    let h = store::header(s, l);
-    let most = oldest_most(l, h);
-    if most < h.oldest {
+    if !fields_right(s, l, size) {
         return false;
     }
-    front_rest(s, l, size)
+    let h = store::header(s, l);
+    let roots = model::wide(h.roots);
+    if roots == 0 {
+        return false;
+    }
+    slots_right(s, l, roots, h.oldest, h.last(), size)
 }

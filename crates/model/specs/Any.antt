@@ -44,7 +44,7 @@ pruneAny b v = outcomeAny b (λ least. pruneLent least b v)
 unfoldable pub lookupAny : List ℕ → ℕ → ℕ → Looked
 lookupAny b k v = byEdition b (λ n. Refused n) (λ least. lookupLent least b k v)
 
-unfoldable pub rangeAny : List ℕ → ℕ → ℕ → ℕ → List ℕ → Listed
+unfoldable pub rangeAny : (b : List ℕ) (lo hi v : ℕ) (ns : List ℕ) → Listed
 rangeAny b lo hi v ns = listedAny b ns (λ least. rangeLent least b lo hi v ns)
 
 unfoldable pub visitsAny : List ℕ → ℕ → ℕ → List ℕ → Listed

@@ -117,7 +117,7 @@ abandon s = numbered (rule 7 (not (s .opened)) ∷ []) (done (abandoned s))
 -- ---- prune (2026-12)
 
 -- 6: above the highest version that is asked for, or "below" the oldest
-abbrev pub beyond : ℕ → ℕ → ℕ → Bool
+abbrev pub beyond : (top old v : ℕ) → Bool
 beyond top old v = ltb top v || ltb v old
 
 -- "frees every page that ended at or before it"
@@ -201,6 +201,8 @@ rangedBy zero room xs = rangedIn (firstOf (rule 14 (ltb room (2 * length xs)) �
 rangedBy (suc n) room xs = record { number = suc n; count = 0; written = [] }
 
 -- 5 "key too large, or range low above high"
-unfoldable pub range : Store → ℕ → ℕ → ℕ → ℕ → Ranged
-range s lo hi v room =
-    rangedBy (firstOf (rule 5 (leb keyLimit lo || leb keyLimit hi || ltb hi lo) ∷ rule 6 (unreadable s v) ∷ [])) room (rangeOf s lo hi v)
+abbrev pub badRange : ℕ → ℕ → Bool
+badRange lo hi = leb keyLimit lo || leb keyLimit hi || ltb hi lo
+
+unfoldable pub range : (s : Store) (lo hi v room : ℕ) → Ranged
+range s lo hi v room = rangedBy (firstOf (rule 5 (badRange lo hi) ∷ rule 6 (unreadable s v) ∷ [])) room (rangeOf s lo hi v)

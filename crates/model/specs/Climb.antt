@@ -53,7 +53,7 @@ goOn (settled ps) k = stays ps
 goOn (upward c ps) k = k c ps
 goOn lacking k = lacks
 
-unfoldable pub climb : ℕ → ℕ → ℕ → List Around → Change → List Page → Rooted
+unfoldable pub climb : (least w r : ℕ) (up : List Around) (c : Change) (ps : List Page) → Rooted
 climb least w r [] c ps = workRoot least w ps r c
 climb least w r (a ∷ up) c ps = goOn (work least w ps a c) (λ (c′ : Change) (ps′ : List Page). climb least w r up c′ ps′)
 

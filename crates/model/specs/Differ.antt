@@ -79,5 +79,5 @@ abbrev pub eitherUnreadable : Store → ℕ → ℕ → Bool
 eitherUnreadable s u v = unreadable s u || unreadable s v
 
 -- From version u to version v. "14 is given when the list holds fewer than four numbers a difference"
-unfoldable pub difference : Store → ℕ → ℕ → ℕ → Ranged
+unfoldable pub difference : (s : Store) (u v room : ℕ) → Ranged
 difference s u v room = toldBy deltaNumbers 4 (firstOf (rule 6 (eitherUnreadable s u v) ∷ [])) room (differ (settings s u) (settings s v))

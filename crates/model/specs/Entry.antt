@@ -18,7 +18,7 @@ abbrev pub pair : ℕ → ℕ → Pair
 pair k x = record { key = k; value = x }
 
 -- "A span runs from start up to but not including end.": v is in the span of a and b
-abbrev pub within : ℕ → ℕ → ℕ → Bool
+abbrev pub within : (a b v : ℕ) → Bool
 within a b v = leb a v && ltb v b
 
 abbrev pub liveAt : ℕ → Entry → Bool

@@ -22,7 +22,7 @@ field s at (suc n) = field s at n * 2 + bitAt s (at + n)
 -- ---- written
 
 -- a byte with its bit at place j made v, which is 0 or 1
-unfoldable pub putBit : ℕ → ℕ → ℕ → ℕ
+unfoldable pub putBit : (b j v : ℕ) → ℕ
 putBit b j v = (b / 2 ^ (7 - j) / 2 * 2 + v) * 2 ^ (7 - j) + b % 2 ^ (7 - j)
 
 -- a list of bytes with its bit k made v
@@ -30,7 +30,7 @@ unfoldable pub setBit : List ℕ → ℕ → ℕ → List ℕ
 setBit s k v = set s (k / 8) (putBit (getD s (k / 8) 0) (k % 8) v)
 
 -- a list of bytes whose bits at, at + 1, .. , so many, are made the number v
-unfoldable pub putField : List ℕ → ℕ → ℕ → ℕ → List ℕ
+unfoldable pub putField : (s : List ℕ) (at n v : ℕ) → List ℕ
 putField s at zero v = s
 putField s at (suc n) v = setBit (putField s at n (v / 2)) (at + n) (v % 2)
 

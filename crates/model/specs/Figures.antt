@@ -17,7 +17,7 @@ use Rattle.model.specs.Table.{insertKey, deleteFrom, reopened}
 -- ---- how a figure is written here
 
 -- "the format of index-page entries is (key range, life span, page identifier)": here the range's low key
-abbrev pub to : ℕ → ℕ → ℕ → ℕ → Entry
+abbrev pub to : (k a b n : ℕ) → Entry
 to k a b n = record { key = k; start = a; end = b; value = n }
 
 -- leaf entries of one span, by key: "the associated data has been left out"; here it is the key and 100

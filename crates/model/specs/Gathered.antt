@@ -29,7 +29,7 @@ abbrev pub rootLow : ℕ → ℕ
 rootLow level = pick (leb 2 level) 2 1
 
 -- From the leaf up: where a page does not take its change in place, what is gathered for it fills pages so; and so further up.
-abbrev pub Gathers : ℕ → ℕ → ℕ → List Around → Change → List Page → Type 0
+abbrev pub Gathers : (least w r : ℕ) (up : List Around) (c : Change) (ps : List Page) → Type 0
 Gathers least w r [] c ps =
     goes w c (page ps r) ≡ false → roomy least w c (page ps r) ≡ false
     → Filled least (rootLow (page ps r .level)) (parts least (wanted w c (page ps r)))

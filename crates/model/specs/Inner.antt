@@ -46,7 +46,7 @@ abbrev pub throughout : ℕ → ℕ → Entry → Bool
 throughout a b e = leb (e .start) a && leb b (e .end)
 
 -- x is no version behind v and before r (laws: proofs/Quiet)
-abbrev pub Out : ℕ → ℕ → ℕ → Type 0
+abbrev pub Out : (v r x : ℕ) → Type 0
 Out v r x = (x ≤ v) ⊎ (r ≤ x)
 
 -- the answer of v holds up to r, and no longer: r is the first version behind v with another, or the first that is not committed (laws:

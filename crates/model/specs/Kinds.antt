@@ -17,7 +17,7 @@ use Rattle.model.specs.Walk.{keyLimit}
 -- ---- a value of the kind
 
 -- "inside the limits, both ends included"
-abbrev pub wholeIn : ℕ → ℕ → ℕ → Bool
+abbrev pub wholeIn : (low high x : ℕ) → Bool
 wholeIn low high x = leb low x && leb x high
 
 -- the same of floats, where no comparison holds of a NaN: "a NaN is refused"
@@ -33,7 +33,7 @@ admits (Level low high) x = levelIn low high (ofBits binary32 x)
 -- ---- the table: four numbers a row, a key, the number of its kind, and its lowest and highest, a level's as the bits of two floats
 
 -- A switch's limits say nothing. Another number is no kind: such a row says nothing of its key.
-abbrev pub rowKind : ℕ → ℕ → ℕ → Known
+abbrev pub rowKind : (number low high : ℕ) → Known
 rowKind number low high =
     pick (eqb number 0) (Is (Whole low high))
     (pick (eqb number 1) (Is Switch)

@@ -57,11 +57,11 @@ liveIn least es = liveShown least (length (those lives es))
 -- ---- pages: "level 4 bits, entry count 5, start 20, end 20, 79 zero bits, then 20 entries"; in edition 2 the live count stands behind the
 -- end, and zero bytes follow the entries
 
-abbrev pub headParts : ℕ → ℕ → ℕ → ℕ → ℕ → ℕ → List Part
+abbrev pub headParts : (least level count start end live : ℕ) → List Part
 headParts least level count start end live =
     4 bits level ∷ countBits least bits count ∷ 20 bits start ∷ 20 bits end ∷ liveBits least bits live ∷ []
 
-unfoldable pub headBytes : ℕ → ℕ → ℕ → ℕ → ℕ → ℕ → List ℕ
+unfoldable pub headBytes : (least level count start end live : ℕ) → List ℕ
 headBytes least level count start end live = packed 16 (headParts least level count start end live)
 
 unfoldable pub encodePage : ℕ → Page → List ℕ

@@ -88,7 +88,7 @@ pub record Listed : Type 0 where
 abbrev pub listed : List ℕ → Ranged → Listed
 listed ns r = record { number = r .number; count = r .count; list = r .written ++ drop (length (r .written)) ns }
 
-unfoldable pub rangeLent : ℕ → List ℕ → ℕ → ℕ → ℕ → List ℕ → Listed
+unfoldable pub rangeLent : (least : ℕ) (b : List ℕ) (lo hi v : ℕ) (ns : List ℕ) → Listed
 rangeLent least b lo hi v ns = listed ns (rangeNear least b lo hi v (length ns))
 
 unfoldable pub visitsLent : ℕ → List ℕ → ℕ → ℕ → List ℕ → Listed

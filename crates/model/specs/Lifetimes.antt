@@ -17,14 +17,14 @@ use Rattle.model.specs.Figures.{to, leaf, slot}
 use Rattle.model.specs.Samples.{twoLevels, fromElsewhere}
 
 -- a stretch, from a up to b, with a value
-abbrev pub held : ℕ → ℕ → ℕ → Stretch
+abbrev pub held : (a b x : ℕ) → Stretch
 held a b x = record { start = a; end = b; value = x }
 
 -- what the life of a key gives, with a list that holds so many numbers: these stretches, or a refusal with a count
 abbrev pub lives : ℕ → ℕ → List Stretch → After → Bool
 lives k room xs a = eqList (rangedNumbers (lived (a .store) k room)) (0 ∷ length xs ∷ flatMap stretchNumbers xs)
 
-abbrev pub livesNot : ℕ → ℕ → ℕ → ℕ → After → Bool
+abbrev pub livesNot : (k room n m : ℕ) (a : After) → Bool
 livesNot k room n m a = eqList (rangedNumbers (lived (a .store) k room)) (n ∷ m ∷ [])
 
 -- in version 2, then committed; key 30 so that something changes

@@ -2,17 +2,17 @@
 -- are the right-hand sides of the layer's contracts, for stores of either edition.
 -- Assumes nothing.
 use Prim.Native.Nat.{ℕ}
-use mathlib.Core.Bool.{Bool, _||_}
+use mathlib.Core.Bool.{Bool}
 use mathlib.Core.List.{List, [], _∷_}
-use lib.Dec.{leb, ltb, eqb}
+use lib.Dec.{eqb}
 use Rattle.model.specs.Basic.{pick, all}
 use Rattle.model.specs.declared.Pair.{Pair}
 use Rattle.model.specs.declared.Looked.{Looked}
 use Rattle.model.specs.declared.Looked.the-variants.{Refused}
-use Rattle.model.specs.Walk.{keyLimit, rangeOf}
+use Rattle.model.specs.Walk.{rangeOf}
 use Rattle.model.specs.Layout.{decode}
 use Rattle.model.specs.Judged.{judged}
-use Rattle.model.specs.Calls.{rule, firstOf, unreadable}
+use Rattle.model.specs.Calls.{rule, firstOf, unreadable, badRange}
 use Rattle.model.specs.Near.{early}
 use Rattle.model.specs.Lent.{Outcome, Listed, judgedFirst, rangeLent}
 use Rattle.model.specs.Editions.{byEdition}
@@ -44,18 +44,18 @@ abbrev pub allKnown : List ℕ → List Pair → Bool
 allKnown table xs = all (λ (x : Pair). eqb (unknown (knownIn table (x .key))) 0) xs
 
 -- the numbers that a range gives before it meets a setting: 1 to 4, then 5 and 6
-unfoldable pub barred : ℕ → List ℕ → ℕ → ℕ → ℕ → ℕ
+unfoldable pub barred : (least : ℕ) (b : List ℕ) (lo hi v : ℕ) → ℕ
 barred least b lo hi v =
     judgedFirst (judged least b .number) (λ n. n)
-    (firstOf (rule 5 (leb keyLimit lo || leb keyLimit hi || ltb hi lo) ∷ rule 6 (unreadable (decode least b) v) ∷ []))
+    (firstOf (rule 5 (badRange lo hi) ∷ rule 6 (unreadable (decode least b) v) ∷ []))
 
 -- "never skipped": a range that meets an unknown key is refused as a whole, before 14
-unfoldable pub rangeNamedBy : ℕ → List ℕ → List ℕ → ℕ → ℕ → ℕ → List ℕ → Listed
+unfoldable pub rangeNamedBy : (least : ℕ) (table b : List ℕ) (lo hi v : ℕ) (ns : List ℕ) → Listed
 rangeNamedBy least table b lo hi v ns =
     judgedFirst (barred least b lo hi v) (λ n. record { number = n; count = 0; list = ns })
     (pick (allKnown table (rangeOf (decode least b) lo hi v)) (rangeLent least b lo hi v ns) (record { number = 17; count = 0; list = ns }))
 
-unfoldable pub rangeNamed : List ℕ → List ℕ → ℕ → ℕ → ℕ → List ℕ → Listed
+unfoldable pub rangeNamed : (table b : List ℕ) (lo hi v : ℕ) (ns : List ℕ) → Listed
 rangeNamed table b lo hi v ns = listedAny b ns (λ least. rangeNamedBy least table b lo hi v ns)
 
 -- "The viewer is a reader opened once on a store and one version": the number that opening it gives. It judges as a lookup does before its

@@ -2,9 +2,9 @@
 -- each page that their own walk comes to; the walk is Walk's, which is total on any store. "01's row 4 is amended for these two".
 -- Assumes nothing.
 use Prim.Native.Nat.{ℕ, zero, suc}
-use mathlib.Core.Bool.{Bool, false, _&&_, _||_, not}
+use mathlib.Core.Bool.{Bool, false, _&&_, not}
 use mathlib.Core.List.{List, [], _∷_}
-use lib.Dec.{leb, ltb, eqb}
+use lib.Dec.{leb, eqb}
 use lib.ListN.{length}
 use Rattle.model.specs.Basic.{all, pick}
 use Rattle.model.specs.declared.Pair.{Pair}
@@ -17,7 +17,7 @@ use Rattle.model.specs.Sound.{isPage, pageOk, rule2}
 use Rattle.model.specs.Layout.{pageOf, decode}
 use Rattle.model.specs.Clean.{cleanPage, cleanFront}
 use Rattle.model.specs.Judged.{lengthOk, magicOk, editionOk}
-use Rattle.model.specs.Calls.{Rule, rule, firstOf, unreadable, lookedBy, Ranged, rangedBy}
+use Rattle.model.specs.Calls.{Rule, rule, firstOf, unreadable, lookedBy, Ranged, rangedBy, badRange}
 
 -- "the header, a directory slot .. breaks rules 1 or 2 of 01 locally": what rule 1 says of the header's fields and zero bits and of the
 -- slots, unused ones too, and rule 2
@@ -48,13 +48,13 @@ module _ (least : ℕ) (b : List ℕ) (v : ℕ) where
   shown n = pairsAt v (page (decode least b .pages) n)
 
   -- "A lookup follows the last such router": the pages from n, `up` levels above the leaves, to the leaf for a key
-  unfoldable pub downRight : ℕ → ℕ → ℕ → Bool
+  unfoldable pub downRight : (up k n : ℕ) → Bool
   downRight zero k n = pageRight least b 1 n
   downRight (suc up) k n = pageRight least b (suc (suc up)) n && (startsBy k (shown n) && downRight up k (around k (shown n) .own .value))
 
   -- "a range does so for its low key, and follows every later router alive and at or below its high key, whose own low key is then the one
   -- its child must cover"
-  unfoldable pub rangeRight : ℕ → ℕ → ℕ → ℕ → Bool
+  unfoldable pub rangeRight : (up hi at n : ℕ) → Bool
   rangeRight zero hi at n = pageRight least b 1 n
   rangeRight (suc up) hi at n =
       pageRight least b (suc (suc up)) n
@@ -84,11 +84,11 @@ lookupNear least b k v =
     (lookup s k v)
 
 -- 14 comes last: it needs the whole walk
-unfoldable pub rangeNear : ℕ → List ℕ → ℕ → ℕ → ℕ → ℕ → Ranged
+unfoldable pub rangeNear : (least : ℕ) (b : List ℕ) (lo hi v room : ℕ) → Ranged
 rangeNear least b lo hi v room =
     let s = decode least b in
     rangedBy
     (firstOf (early least b
-    (rule 5 (leb keyLimit lo || leb keyLimit hi || ltb hi lo) ∷ rule 6 (unreadable s v)
+    (rule 5 (badRange lo hi) ∷ rule 6 (unreadable s v)
     ∷ rule 4 (not (fromRoot least b v (λ up n. rangeRight least b v up hi lo n))) ∷ [])))
     room (rangeOf s lo hi v)

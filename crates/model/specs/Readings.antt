@@ -17,11 +17,9 @@ use Rattle.model.specs.Histories.{Call, After, begins, commits, abandons
 use Rattle.model.specs.Replay.{History, gives, slots, root, pageIn, keys, leads, holding, span, freed, looks, ranges, bytesOf}
 use Rattle.model.specs.Table.{history, insertKey, twenty}
 use Rattle.model.specs.AlsoRun.{stops}
+use Rattle.model.specs.Figures.{slot}
 
 -- ---- stores from elsewhere
-
-abbrev pub slot : ℕ → ℕ → Slot
-slot v n = record { version = v; root = n }
 
 -- a leaf's pairs: a key's value is the key and 100
 abbrev pub leafPairs : List ℕ → List Pair
@@ -31,7 +29,7 @@ leafPairs ks = map (λ (k : ℕ). pair k (k + 100)) ks
 abbrev pub ended : ℕ → ℕ → List Pair → List Entry
 ended a b ps = map (λ (p : Pair). record { key = p .key; start = a; end = b; value = p .value }) ps
 
-abbrev pub pageOver : ℕ → ℕ → ℕ → List Entry → Page
+abbrev pub pageOver : (level a b : ℕ) (es : List Entry) → Page
 pageOver level a b es = record { level = level; start = a; end = b; entries = es }
 
 -- pages 6 and on under an open update, and so many free ones; page 5 was version 0's root

@@ -68,7 +68,7 @@ abbrev pub holding : ℕ → ℕ → After → Bool
 holding n m a = eqb (length (pageIn a n .entries)) m
 
 -- a page's start and end
-abbrev pub span : ℕ → ℕ → ℕ → After → Bool
+abbrev pub span : (n x y : ℕ) (a : After) → Bool
 span n x y a = eqb (pageIn a n .start) x && eqb (pageIn a n .end) y
 
 abbrev pub freed : ℕ → After → Bool
@@ -91,7 +91,7 @@ looks k v x a = eqList (lookedNumbers (get (a .store) k v)) (lookedNumbers x)
 abbrev pub rangedNumbers : Ranged → List ℕ
 rangedNumbers r = r .number ∷ r .count ∷ r .written
 
-abbrev pub ranges : ℕ → ℕ → ℕ → ℕ → Ranged → After → Bool
+abbrev pub ranges : (lo hi v room : ℕ) (r : Ranged) (a : After) → Bool
 ranges lo hi v room r a = eqList (rangedNumbers (range (a .store) lo hi v room)) (rangedNumbers r)
 
 -- ---- bytes

@@ -68,7 +68,7 @@ rebuildWith w level ps rs (two x y) (n ∷ []) = short
 rebuildWith w level ps rs (two x y) (n ∷ m ∷ ns) =
     rebuilt (set (set (retire w ps rs) n (filled w level x)) m (filled w level y)) (pair (lowKey rs) n ∷ pair (lowKey y) m ∷ [])
 
-unfoldable pub rebuild : ℕ → ℕ → ℕ → List Page → Group → Rebuilt
+unfoldable pub rebuild : (least w level : ℕ) (ps : List Page) (g : Group) → Rebuilt
 rebuild least w level ps g = rebuildWith w level ps (g .routers) (parts least (g .pairs)) (usable w ps (g .routers))
 
 -- "The parent's wanted list drops the old routers and takes one for each page now used; a router with the same low key and page stays
@@ -103,7 +103,7 @@ abbrev pub roomy : ℕ → ℕ → Change → Page → Bool
 roomy least w c p = leb (length (changed w c p .entries)) (5 * least)
 
 -- else the group is rebuilt, and its parent has the routers to exchange
-unfoldable pub regroup : ℕ → ℕ → ℕ → List Page → Group → Worked
+unfoldable pub regroup : (least w level : ℕ) (ps : List Page) (g : Group) → Worked
 regroup least w level ps g = handUp (g .routers) (rebuild least w level ps g)
 
 unfoldable pub workBy : ℕ → Bool → ℕ → List Page → Around → Change → Page → Worked

@@ -26,17 +26,17 @@ abbrev pub isPage : ℕ → ℕ → Bool
 isPage size n = leb 5 n && ltb n size
 
 -- "starts are at most last; each end is at most last, or alive; every span is non-empty"
-abbrev pub spanOk : ℕ → ℕ → ℕ → Bool
+abbrev pub spanOk : (l a b : ℕ) → Bool
 spanOk l a b = leb a l && (leb b l || eqb b alive) && ltb a b
 
 -- "a leaf entry's [start is] at least 1"; last version l, number of pages, the page's level
-abbrev pub entryOk : ℕ → ℕ → ℕ → Entry → Bool
+abbrev pub entryOk : (l size level : ℕ) (e : Entry) → Bool
 entryOk l size level e =
     spanOk l (e .start) (e .end) && ltb (e .key) keyLimit
     && pick (eqb level 1) (leb 1 (e .start) && ltb (e .value) 4294967296) (isPage size (e .value))
 
 -- "level 4 bits (0 free, 1 leaf, 2 to 7 index)"; "Entries stand by key, then start, no two alike in both"
-abbrev pub pageOk : ℕ → ℕ → ℕ → Page → Bool
+abbrev pub pageOk : (least l size : ℕ) (p : Page) → Bool
 pageOk least l size p =
     leb (p .level) 7 && leb (length (p .entries)) (5 * least) && spanOk l (p .start) (p .end)
     && inOrder before (p .entries) && all (entryOk l size (p .level)) (p .entries)
@@ -45,7 +45,7 @@ pageOk least l size p =
 abbrev pub zeroed : Page → Bool
 zeroed p = eqb (p .start) 0 && eqb (p .end) 0 && isEmpty (p .entries)
 
-abbrev pub pageFine : ℕ → ℕ → ℕ → Page → Bool
+abbrev pub pageFine : (least l size : ℕ) (p : Page) → Bool
 pageFine least l size p = pick (isFree p) (zeroed p) (pageOk least l size p)
 
 -- "The store is 6 to 4,096 pages"; "256 slots"; "Current is at most 1,048,573 while open", else 1,048,574. The oldest version "by rule 1

@@ -20,7 +20,7 @@ pub record Sooner (v r x q : ℕ) : Type 0 where
   pub above : v < q
   pub out : Out v q x
 
-abbrev pub stretch : ℕ → ℕ → ℕ → Stretch
+abbrev pub stretch : (v r x : ℕ) → Stretch
 stretch v r x = record { start = v; end = r; value = x }
 
 -- "Each stretch takes three numbers"

@@ -3,11 +3,13 @@
 -- Assumes nothing.
 use Prim.Native.Nat.{ℕ, _+_, _*_, _^_, _≤_}
 use mathlib.Core.Bool.{Bool, true}
-use mathlib.Core.Path.{_≡_}
+use mathlib.Core.Path.{_≡_, refl}
 use mathlib.Core.List.{List}
 use lib.ListN.{length}
 use lib.Seq.{sets}
 use Rattle.model.specs.Basic.{pick, flatMap}
+use Rattle.model.specs.declared.Delta.{Delta}
+use Rattle.model.specs.Differ.{deltaNumbers}
 
 -- how a thing is told: its numbers, so many for each
 pub record Shape (A : Type 0) : Type 0 where
@@ -32,3 +34,7 @@ module _ {A : Type 0} (t : Shape A) where
   pub record Gathers (w : Bool) (ns ns′ : List ℕ) (k r : ℕ) (xs : List A) : Type 0 where
     pub count : r ≡ k + length xs
     pub list : ns′ ≡ written w ns k xs
+
+-- "Each takes four numbers"
+abbrev pub deltas : Shape Delta
+deltas = record { numbers = deltaNumbers; each = 4; size = λ d. refl }

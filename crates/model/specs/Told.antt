@@ -14,6 +14,6 @@ toldIn numbers (suc n) xs = record { number = suc n; count = length xs; written 
 
 -- "14 is given when the list holds fewer than" each numbers for each of them. room: how many numbers the caller's list holds; the first
 -- number is that of the refusals before 14: "any result not named here is 0"
-unfoldable pub toldBy : {A : Type 0} → (A → List ℕ) → ℕ → ℕ → ℕ → List A → Ranged
+unfoldable pub toldBy : {A : Type 0} → (numbers : A → List ℕ) (each n room : ℕ) (xs : List A) → Ranged
 toldBy numbers each zero room xs = toldIn numbers (firstOf (rule 14 (ltb room (each * length xs)) ∷ [])) xs
 toldBy numbers each (suc n) room xs = record { number = suc n; count = 0; written = [] }

@@ -14,5 +14,5 @@ pageNumber n = n ∷ []
 
 -- It is refused as the lookup is, 5 "key too large", 6 "version above last" or below the oldest; then 14, where the caller's list holds
 -- fewer numbers than pages are visited. room: how many numbers it holds.
-unfoldable pub visits : Store → ℕ → ℕ → ℕ → Ranged
+unfoldable pub visits : (s : Store) (k v room : ℕ) → Ranged
 visits s k v room = toldBy pageNumber 1 (firstOf (rule 5 (leb keyLimit k) ∷ rule 6 (unreadable s v) ∷ [])) room (lookupVisits s k v)

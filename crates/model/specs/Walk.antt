@@ -57,7 +57,7 @@ around k [] = record { left = none; own = pair 0 0; right = none }
 around k (x ∷ xs) = aroundFrom k none x xs
 
 -- the way down from page n to the leaf for a key: the leaf's place first, the root's own not among them
-abbrev pub wayDown : ℕ → List Page → ℕ → ℕ → ℕ → List Around → List Around
+abbrev pub wayDown : (up : ℕ) (ps : List Page) (v k n : ℕ) (acc : List Around) → List Around
 wayDown zero ps v k n acc = acc
 wayDown (suc up) ps v k n acc =
     let a = around k (pairsAt v (page ps n)) in
@@ -81,7 +81,7 @@ abbrev pub lookup : Store → ℕ → ℕ → Option ℕ
 lookup s k v = find k (pairsAt v (page (s .pages) (leafOf (rootAt (s .slots) v) (way s v k))))
 
 -- the pages that a lookup visits, from the root down
-abbrev pub pathDown : ℕ → List Page → ℕ → ℕ → ℕ → List ℕ
+abbrev pub pathDown : (up : ℕ) (ps : List Page) (v k n : ℕ) → List ℕ
 pathDown zero ps v k n = n ∷ []
 pathDown (suc up) ps v k n = n ∷ pathDown up ps v k (around k (pairsAt v (page ps n)) .own .value)
 
@@ -99,22 +99,22 @@ abbrev pub followed : ℕ → ℕ → List Pair → List Pair
 followed at hi [] = []
 followed at hi (x ∷ xs) = followFrom at hi x xs
 
-abbrev pub rangeBelow : ℕ → List Page → ℕ → ℕ → ℕ → ℕ → ℕ → List Pair
+abbrev pub rangeBelow : (up : ℕ) (ps : List Page) (v lo hi at n : ℕ) → List Pair
 rangeBelow zero ps v lo hi at n = between lo hi (pairsAt v (page ps n))
 rangeBelow (suc up) ps v lo hi at n =
     flatMap (λ (r : Pair). rangeBelow up ps v lo hi (r .key) (r .value)) (followed at hi (pairsAt v (page ps n)))
 
 -- the settings from lo to hi that a range finds
-abbrev pub rangeOf : Store → ℕ → ℕ → ℕ → List Pair
+abbrev pub rangeOf : (s : Store) (lo hi v : ℕ) → List Pair
 rangeOf s lo hi v = let r = rootAt (s .slots) v in rangeBelow (heightOf (s .pages) r) (s .pages) v lo hi lo r
 
 -- and the pages that it visits
-abbrev pub rangePath : ℕ → List Page → ℕ → ℕ → ℕ → ℕ → List ℕ
+abbrev pub rangePath : (up : ℕ) (ps : List Page) (v hi at n : ℕ) → List ℕ
 rangePath zero ps v hi at n = n ∷ []
 rangePath (suc up) ps v hi at n =
     n ∷ flatMap (λ (r : Pair). rangePath up ps v hi (r .key) (r .value)) (followed at hi (pairsAt v (page ps n)))
 
-abbrev pub rangeVisits : Store → ℕ → ℕ → ℕ → List ℕ
+abbrev pub rangeVisits : (s : Store) (lo hi v : ℕ) → List ℕ
 rangeVisits s lo hi v = let r = rootAt (s .slots) v in rangePath (heightOf (s .pages) r) (s .pages) v hi lo r
 
 -- A page that a walk over all entries alive then reaches: its number, how far it stands above the leaves, whether it is the root, the
@@ -134,16 +134,16 @@ spread f (x ∷ []) high = f (x .key) high (x .value)
 spread f (x ∷ y ∷ zs) high = f (x .key) (y .key) (x .value) ++ spread f (y ∷ zs) high
 
 -- "walk from its root over entries alive then"
-abbrev pub seenAs : ℕ → List Page → ℕ → Bool → ℕ → ℕ → ℕ → Seen
+abbrev pub seenAs : (up : ℕ) (ps : List Page) (v : ℕ) (b : Bool) (low high n : ℕ) → Seen
 seenAs up ps v b low high n = record { number = n; up = up; isRoot = b; low = low; high = high; pairs = pairsAt v (page ps n) }
 
 -- the pages below page n
-abbrev pub seenUnder : ℕ → List Page → ℕ → ℕ → ℕ → List Seen
+abbrev pub seenUnder : (up : ℕ) (ps : List Page) (v high n : ℕ) → List Seen
 seenUnder zero ps v high n = []
 seenUnder (suc up) ps v high n =
     spread (λ (lo hi i : ℕ). seenAs up ps v false lo hi i ∷ seenUnder up ps v hi i) (pairsAt v (page ps n)) high
 
-abbrev pub seenBelow : ℕ → List Page → ℕ → Bool → ℕ → ℕ → ℕ → List Seen
+abbrev pub seenBelow : (up : ℕ) (ps : List Page) (v : ℕ) (b : Bool) (low high n : ℕ) → List Seen
 seenBelow up ps v b low high n = seenAs up ps v b low high n ∷ seenUnder up ps v high n
 
 abbrev pub seen : Store → ℕ → List Seen

@@ -1,15 +1,10 @@
 -- The chain of a reading: 1, 2, 3, 4 by the front, 5, 6; and behind them 4 by the walk.
 use Prim.Native.Nat.{ℕ}
-use mathlib.Core.Bool.{Bool, _||_}
+use mathlib.Core.Bool.{Bool}
 use mathlib.Core.List.{List, [], _∷_}
-use lib.Dec.{leb, ltb}
-use Rattle.model.specs.Walk.{keyLimit}
 use Rattle.model.specs.Layout.{decode}
 use Rattle.model.specs.Calls.{unreadable, rule, firstOf}
 use Rattle.model.specs.Near.{early}
-
-abbrev pub badRange : ℕ → ℕ → Bool
-badRange lo hi = leb keyLimit lo || leb keyLimit hi || ltb hi lo
 
 module _ (least : ℕ) (b : List ℕ) where
   -- 1 to 4 by the front

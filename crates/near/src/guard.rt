@@ -4,9 +4,9 @@ use model::Limits;
 ghost use mathlib.Core.Path.{_≡_};
 ghost use Prim.Native.Nat.{_^_, _<_};
 ghost use Rattle.model.specs.Store.{lastOf};
-ghost use Rattle.model.specs.Calls.{beyond};
+ghost use Rattle.model.specs.Calls.{beyond, badRange};
 ghost use Rattle.model.specs.Limits.{Edition};
-ghost use Rattle.near.specs.Early.{fronted, guarded, badRange};
+ghost use Rattle.near.specs.Early.{fronted, guarded};
 
 // "Keys are 0 to 16,777,215".
 pub const KEYS: u32 = 16777216;

@@ -112,7 +112,7 @@ module _ (ns ms : List ℕ) where
   abbrev pub tellsGuarded : List ℕ → (ℕ → Ranged) → Listed
   tellsGuarded us f = pick (isLent ns ms) (listed us (f (length us))) (record { number = 4; count = 0; list = us })
 
-  abbrev pub rangeGuarded : ℕ → ℕ → ℕ → List ℕ → Listed
+  abbrev pub rangeGuarded : (lo hi v : ℕ) (us : List ℕ) → Listed
   rangeGuarded lo hi v us = tellsGuarded us (range own lo hi v)
 
   abbrev pub differenceGuarded : ℕ → ℕ → List ℕ → Listed

@@ -59,7 +59,7 @@ setting k none = []
 setting k (some x) = pair k x ∷ []
 
 -- the settings from lo to hi at a version: each key in turn
-abbrev pub settings : ℕ → ℕ → ℕ → List Entry → List Pair
+abbrev pub settings : (lo hi v : ℕ) (es : List Entry) → List Pair
 settings lo hi v es = flatMap (λ (k : ℕ). setting k (valueAt k v es)) (count lo (suc hi - lo))
 
 -- "Keys are 0 to 16,777,215": how many there are. Kept shut, so that no proof counts them.
@@ -73,7 +73,7 @@ differs u v es = flatMap (λ (k : ℕ). saysOf k (valueAt k u es) (valueAt k v e
 -- ---- what a change makes of the items, w being the open version
 
 -- an item for each accepted insert, behind the others
-abbrev pub setKey : ℕ → ℕ → ℕ → List Entry → List Entry
+abbrev pub setKey : (w k x : ℕ) (es : List Entry) → List Entry
 setKey w k x es = es ++ (born w (pair k x) ∷ [])
 
 -- "To end an entry: if it starts at the open version it is removed, otherwise its end becomes the open version."
@@ -87,7 +87,7 @@ sameValue (some x) none = false
 sameValue (some x) (some y) = eqb x y
 
 -- a return: "first it deletes keys absent there or with another value"
-abbrev pub endOther : ℕ → ℕ → ℕ → List Entry → List Entry
+abbrev pub endOther : (w v k : ℕ) (es : List Entry) → List Entry
 endOther w v k es = pick (sameValue (valueAt k w es) (valueAt k v es)) es (endKey w k es)
 
 -- "then it inserts what is missing": where the key has no value now, the one that it has there
@@ -96,7 +96,7 @@ setAs w k none (some x) es = setKey w k x es
 setAs w k none none es = es
 setAs w k (some y) o es = es
 
-abbrev pub setMissing : ℕ → ℕ → ℕ → List Entry → List Entry
+abbrev pub setMissing : (w v k : ℕ) (es : List Entry) → List Entry
 setMissing w v k es = setAs w k (valueAt k w es) (valueAt k v es) es
 
 -- "each in rising key order"
@@ -167,12 +167,12 @@ unfoldable pub lookup : Plain → ℕ → ℕ → Looked
 lookup p k v = lookedBy (firstOf (rule 5 (leb keyLimit k) ∷ rule 6 (unreadable p v) ∷ [])) (valueAt k v (p .items))
 
 -- room: how many numbers the caller's list holds
-unfoldable pub range : Plain → ℕ → ℕ → ℕ → ℕ → Ranged
+unfoldable pub range : (p : Plain) (lo hi v room : ℕ) → Ranged
 range p lo hi v room =
     rangedBy (firstOf (rule 5 (leb keyLimit lo || leb keyLimit hi || ltb hi lo) ∷ rule 6 (unreadable p v) ∷ [])) room
     (settings lo hi v (p .items))
 
-unfoldable pub difference : Plain → ℕ → ℕ → ℕ → Ranged
+unfoldable pub difference : (p : Plain) (u v room : ℕ) → Ranged
 difference p u v room = toldBy deltaNumbers 4 (firstOf (rule 6 (unreadable p u || unreadable p v) ∷ [])) room (differs u v (p .items))
 
 -- a life begins at the oldest version

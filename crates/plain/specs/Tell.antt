@@ -1,16 +1,12 @@
 -- Settings and differences told into the caller's list.
 use Prim.Native.Nat.{ℕ}
-use mathlib.Core.Bool.{Bool, _||_}
 use mathlib.Core.Path.{refl}
 use mathlib.Core.List.{List, [], _∷_}
-use lib.Dec.{leb, ltb}
 use Rattle.model.specs.Basic.{pick, count}
 use Rattle.model.specs.declared.Pair.{Pair}
 use Rattle.model.specs.declared.Delta.{Delta}
 use Rattle.model.specs.Entry.{pair}
-use Rattle.model.specs.Walk.{keyLimit}
 use Rattle.model.specs.Calls.{pairNumbers}
-use Rattle.model.specs.Differ.{deltaNumbers}
 use Rattle.model.specs.Lent.{Listed}
 use Rattle.model.specs.Telling.{Shape}
 use Rattle.plain.specs.declared.items.Found.{Found}
@@ -20,10 +16,6 @@ use Rattle.plain.specs.Scan.{sameFound}
 -- "it writes key, value, key, value"
 abbrev pub pairs : Shape Pair
 pairs = record { numbers = pairNumbers; each = 2; size = λ p. refl }
-
--- "Each takes four numbers"
-abbrev pub deltas : Shape Delta
-deltas = record { numbers = deltaNumbers; each = 4; size = λ d. refl }
 
 abbrev pub settingBy : ℕ → Found → List Pair
 settingBy k a = pick (a .is) (pair k (a .value) ∷ []) []
@@ -36,10 +28,6 @@ deltaBy k a b = pick (sameFound a b) [] (record { key = k; kind = kindBy a b; ol
 
 abbrev pub toldAs : ℕ → ℕ → Told
 toldAs n c = record { number = n; count = c }
-
--- 5 "key too large, or range low above high"
-abbrev pub badRange : ℕ → ℕ → Bool
-badRange lo hi = leb keyLimit lo || leb keyLimit hi || ltb hi lo
 
 -- what a call that tells gave, with the list after it
 abbrev pub toldWith : Told → List ℕ → Listed

@@ -15,11 +15,11 @@ ghost use mathlib.Core.Path.{_≡_};
 ghost use Prim.Native.Nat.{_≤_};
 ghost use lib.ListN.{length};
 ghost use Rattle.model.specs.Store.{lastOf};
-ghost use Rattle.model.specs.Calls.{beyond};
+ghost use Rattle.model.specs.Calls.{beyond, badRange};
 ghost use Rattle.model.specs.Lent.{listed};
 ghost use Rattle.plain.specs.Plain.{insert, delete, commit, abandon, return, prune, lookup, range, difference, life};
 ghost use Rattle.plain.specs.Items.{plainOf, ItemsHeld};
-ghost use Rattle.plain.specs.Tell.{toldAs, toldWith, badRange};
+ghost use Rattle.plain.specs.Tell.{toldAs, toldWith};
 ghost use Rattle.plain.specs.Calls.{givenBy, leftWith, Room, Opens};
 
 // Keys are below this.

@@ -9,11 +9,11 @@ ghost use mathlib.Core.List.{[], _∷_};
 ghost use Prim.Native.Nat.{_*_, _≤_, _<_};
 ghost use lib.ListN.{length};
 ghost use Rattle.model.specs.Entry.{pair};
-ghost use Rattle.model.specs.Telling.{written, Space, Gathers};
+ghost use Rattle.model.specs.Telling.{written, Space, Gathers, deltas};
 ghost use Rattle.model.specs.Walk.{keyLimit};
 ghost use Rattle.plain.specs.Plain.{settings, differs};
 ghost use Rattle.plain.specs.Items.{from};
-ghost use Rattle.plain.specs.Tell.{pairs, deltas, settingBy, kindBy, deltaBy};
+ghost use Rattle.plain.specs.Tell.{pairs, settingBy, kindBy, deltaBy};
 
 fn put_pair(list: &mut [u32], k: usize, key: u32, value: u32, write: bool)
     requires { ⌜ Space pairs write (now list) k (pair key value ∷ []) ⌝ }

@@ -12,7 +12,6 @@ ghost use Prim.Native.Nat.{_+_, _*_, _^_, _≤_, _<_};
 ghost use lib.Dec.{leb};
 ghost use Rattle.model.specs.Basic.{pick};
 ghost use Rattle.model.specs.Limits.{Edition};
-ghost use Rattle.model.specs.Store.{page};
 ghost use Rattle.model.specs.Needs.{goes};
 ghost use Rattle.outlook.specs.Plan.{planGroup, planWork, planRoot, planUp};
 ghost use Rattle.edit.specs.Change.{changeOf, one};

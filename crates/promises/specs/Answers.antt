@@ -35,15 +35,15 @@ lastIn m = lastOf (m .opened) (m .current)
 -- Calls and Return)
 
 -- 5 "key too large", 6 "version above last", or below the oldest
-abbrev pub lookupTests : ℕ → ℕ → ℕ → ℕ → List Rule
+abbrev pub lookupTests : (old last k v : ℕ) → List Rule
 lookupTests old last k v = rule 5 (leb keyLimit k) ∷ rule 6 (beyond last old v) ∷ []
 
 -- 5 "key too large, or range low above high"
-abbrev pub rangeTests : ℕ → ℕ → ℕ → ℕ → ℕ → List Rule
+abbrev pub rangeTests : (old last lo hi v : ℕ) → List Rule
 rangeTests old last lo hi v = rule 5 (leb keyLimit lo || leb keyLimit hi || ltb hi lo) ∷ rule 6 (beyond last old v) ∷ []
 
 -- 6 of either version
-abbrev pub differenceTests : ℕ → ℕ → ℕ → ℕ → List Rule
+abbrev pub differenceTests : (old last u v : ℕ) → List Rule
 differenceTests old last u v = rule 6 (beyond last old u || beyond last old v) ∷ []
 
 -- 5 "key too large"
@@ -69,11 +69,11 @@ abbrev pub lookedIn : Machine → ℕ → ℕ → Looked
 lookedIn m k v = lookedBy (firstOf (lookupTests (m .oldest) (lastIn m) k v)) (find k (m .shows v))
 
 -- all the settings from lo to hi at a version, with 14 if the list has not the room
-abbrev pub rangedFrom : Machine → ℕ → ℕ → ℕ → ℕ → Ranged
+abbrev pub rangedFrom : (m : Machine) (lo hi v room : ℕ) → Ranged
 rangedFrom m lo hi v room = rangedBy (firstOf (rangeTests (m .oldest) (lastIn m) lo hi v)) room (between lo hi (m .shows v))
 
 -- what differs between two versions, with 14 if the list has not the room
-abbrev pub toldFrom : Machine → ℕ → ℕ → ℕ → Ranged
+abbrev pub toldFrom : (m : Machine) (u v room : ℕ) → Ranged
 toldFrom m u v room = toldBy deltaNumbers 4 (firstOf (differenceTests (m .oldest) (lastIn m) u v)) room (differ (m .shows u) (m .shows v))
 
 -- the life of a key, by what the committed versions show

@@ -15,12 +15,12 @@ use Rattle.model.specs.Walk.{rootAt}
 use Rattle.model.specs.Sound.{isPage, spanOk, entryOk, zeroed, rule2, rule3, rule4, rule5, rule6, sound}
 
 -- `pageOk` without "level 4 bits (0 free, 1 leaf, 2 to 7 index)"
-abbrev pub pageOkAnyLevel : ℕ → ℕ → ℕ → Page → Bool
+abbrev pub pageOkAnyLevel : (least l size : ℕ) (p : Page) → Bool
 pageOkAnyLevel least l size p =
     leb (length (p .entries)) (5 * least) && spanOk l (p .start) (p .end) && inOrder before (p .entries)
     && all (entryOk l size (p .level)) (p .entries)
 
-abbrev pub pageFineAnyLevel : ℕ → ℕ → ℕ → Page → Bool
+abbrev pub pageFineAnyLevel : (least l size : ℕ) (p : Page) → Bool
 pageFineAnyLevel least l size p = pick (isFree p) (zeroed p) (pageOkAnyLevel least l size p)
 
 -- `rule1` over it

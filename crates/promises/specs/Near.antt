@@ -67,14 +67,14 @@ module _ (least : ℕ) (b : List ℕ) where
     NoRouter k n = Each (λ (r : Pair). k < r .key) (pairsAt v (pageIn n))
 
     -- From page n on, `up` levels above the leaves: "A lookup follows the last such router".
-    abbrev pub WrongDown : ℕ → ℕ → ℕ → Type 0
+    abbrev pub WrongDown : (up k n : ℕ) → Type 0
     WrongDown zero k n = Breaks n ⊎ OtherLevel 1 n
     WrongDown (suc up) k n =
         Breaks n ⊎ (OtherLevel (suc (suc up)) n ⊎ (NoRouter k n ⊎ WrongDown up k (around k (pairsAt v (pageIn n)) .own .value)))
 
     -- "a range does so for its low key, and follows every later router alive and at or below its high key, whose own low key is then the
     -- one its child must cover" (`followed`)
-    abbrev pub WrongAcross : ℕ → ℕ → ℕ → ℕ → Type 0
+    abbrev pub WrongAcross : (up hi at n : ℕ) → Type 0
     WrongAcross zero hi at n = Breaks n ⊎ OtherLevel 1 n
     WrongAcross (suc up) hi at n =
         Breaks n

@@ -10,7 +10,7 @@ use Rattle.notes.specs.Linked.{Linked}
 use Rattle.local.specs.Local.{IsPage, countAt, levelAt}
 
 -- where a stretch is not empty: page n, `up` levels above the leaves, from the oldest version on
-abbrev pub Asks : ℕ → List ℕ → ℕ → ℕ → ℕ → ℕ → Type 0
+abbrev pub Asks : (least : ℕ) (s : List ℕ) (a b up n : ℕ) → Type 0
 Asks least s a b up n = a < b → (readHeader least s .oldest ≤ a) × IsPage least s n × (levelAt least s n ≡ up + 1)
 
 pub record QuickGood (least : ℕ) (s : List ℕ) : Type 0 where

@@ -11,5 +11,5 @@ abbrev pub ownFine : ℕ → ℕ → List Page → Page → Bool
 ownFine least old ps p = isFree p || (inOrder apart (kept old (p .entries)) && childrenFine least old ps (p .level) (kept old (p .entries)))
 
 -- a page of level k
-abbrev pub atLevel : ℕ → ℕ → ℕ → List Page → Page → Bool
+abbrev pub atLevel : (k least old : ℕ) (ps : List Page) (p : Page) → Bool
 atLevel k least old ps p = not (eqb (p .level) k) || ownFine least old ps p

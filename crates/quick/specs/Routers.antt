@@ -16,7 +16,7 @@ abbrev pub routerFrom : ℕ → ℕ → List Page → ℕ → Entry → List Ent
 routerFrom least up ps a e es = fineOver least (e .key) a (e .end) (page ps (e .value)) && nexts (underPage up ps (e .value)) a (e .end) es
 
 -- from the oldest version on; of one that ended by then nothing is asked
-abbrev pub routerFine : ℕ → ℕ → ℕ → List Page → Entry → List Entry → Bool
+abbrev pub routerFine : (least old up : ℕ) (ps : List Page) (e : Entry) (es : List Entry) → Bool
 routerFine least old up ps e es = leb (e .end) old || routerFrom least up ps (max old (e .start)) e es
 
 -- the entries of page n

@@ -1,13 +1,13 @@
 // One entry and a stretch, the versions from a up to, not including, b.
 use model::Entry;
 ghost use mathlib.Core.Path.{_≡_};
-ghost use mathlib.Core.Bool.{_||_, _&&_, not};
-ghost use Prim.Native.Nat.{_-_, _≤_, min, max};
+ghost use mathlib.Core.Bool.{_||_, _&&_};
+ghost use Prim.Native.Nat.{suc, _-_, _≤_, min, max};
 ghost use lib.Dec.{leb, ltb, eqb};
 ghost use Rattle.model.specs.Basic.{pick};
-ghost use Rattle.model.specs.Entry.{liveAt};
 ghost use Rattle.spans.specs.Quick.{meets, past, apart};
 ghost use Rattle.model.specs.Inner.{throughout};
+ghost use Rattle.quick.specs.Part.{keyFine};
 
 pub(crate) fn larger(a: u32, b: u32) -> u32
     ensures { λ r. ⌜ r ≡ max a b ⌝ }
@@ -115,47 +115,27 @@ pub(crate) fn nobody() -> Entry
     }
 }
 
-// The key is at least low, if the entry is alive in the stretch.
-pub(crate) fn low_fine(low: u32, a: u32, b: u32, e: Entry) -> bool
-    ensures { λ r. ⌜ r ≡ (not (meets a b e) || leb low (e .key)) ⌝ }
+// The key is under k, or it is at least k, as `under` says, if the entry is alive in the stretch.
+pub(crate) fn key_fine(k: u32, under: bool, a: u32, b: u32, e: Entry) -> bool
+    ensures { λ r. ⌜ r ≡ keyFine under k a b e ⌝ }
 {
     if !meets(a, b, e) {
         return true;
     }
-    low <= e.key
+    if under {
+        return e.key < k;
+    }
+    k <= e.key
 }
 
-// The key is under h, if the entry is alive in the stretch.
-pub(crate) fn high_fine(h: u32, a: u32, b: u32, e: Entry) -> bool
-    ensures { λ r. ⌜ r ≡ (not (meets a b e) || ltb (e .key) h) ⌝ }
-{
-    if !meets(a, b, e) {
-        return true;
-    }
-    e.key < h
-}
-
-// One, if the entry is alive at v.
-pub(crate) fn live_one(e: Entry, v: u32) -> usize
-    ensures { λ r. ⌜ r ≡ pick (liveAt v e) 1 0 ⌝ }
-{
-    if v < e.start {
-        return 0;
-    }
-    if v < e.end {
-        return 1;
-    }
-    0
-}
-
-// One, if the entry is alive throughout the stretch.
-pub(crate) fn through_one(e: Entry, a: u32, b: u32) -> usize
-    ensures { λ r. ⌜ r ≡ pick (throughout a b e) 1 0 ⌝ }
+// One, if the entry is alive from a on through z.
+pub(crate) fn through_one(e: Entry, a: u32, z: u32) -> usize
+    ensures { λ r. ⌜ r ≡ pick (throughout a (suc z) e) 1 0 ⌝ }
 {
     if a < e.start {
         return 0;
     }
-    if e.end < b {
+    if e.end <= z {
         return 0;
     }
     1

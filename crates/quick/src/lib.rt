@@ -15,14 +15,13 @@ use model::Header;
 use model::Limits;
 use within::Within;
 ghost use mathlib.Core.Path.{_≡_};
-ghost use mathlib.Core.Bool.{true, false, _&&_};
+ghost use mathlib.Core.Bool.{true, false};
 ghost use Prim.Native.Nat.{_+_, _*_, _≤_, _<_};
-ghost use lib.ListN.{drop};
 ghost use Rattle.model.specs.Limits.{Edition};
 ghost use Rattle.model.specs.Layout.{decode};
 ghost use Rattle.model.specs.Sound.{rule6};
 ghost use Rattle.model.specs.Judged.{lengthOk, magicOk, editionOk, judged};
-ghost use Rattle.spans.specs.Quick.{spansMet, slotsFine, quick, quickIn};
+ghost use Rattle.spans.specs.Quick.{ledRight, quick, quickIn};
 ghost use Rattle.local.specs.Local.{Sized};
 ghost use Rattle.notes.specs.Ready.{Ready};
 ghost use Rattle.quick.specs.Good.{QuickGood};
@@ -33,8 +32,7 @@ ghost use Rattle.quick.specs.Slots.{GoodSlots};
 // The sums and the slots: rule 6, once rules 4 and 5 hold (notes/proofs/laws/Six, `six-by`). Each is one pass over the store.
 pub fn led(s: &[u8], l: Limits) -> bool
     requires { ⌜ Edition l × QuickGood (l .least) (now s) × GoodSlots (l .least) (now s) ⌝ }
-    ensures { λ r. ⌜ r
-        ≡ (spansMet (decode (l .least) (now (s .entry))) 5 (drop 5 (decode (l .least) (now (s .entry)) .pages)) && slotsFine (l .least) (decode (l .least) (now (s .entry)) .oldest) (decode (l .least) (now (s .entry)) .pages) (decode (l .least) (now (s .entry)) .slots)) ⌝ }
+    ensures { λ r. ⌜ r ≡ ledRight (l .least) (decode (l .least) (now (s .entry))) ⌝ }
 {
     if !sums::spans_met(s, l) {
         return false;
@@ -53,8 +51,8 @@ fn budget(size: usize) -> u32
 // The pages, where the sums and the slots are right: what is found is rules 4 to 6, if something of the budget is left.
 fn pages_within(s: &[u8], l: Limits) -> Within
     requires { ⌜ Edition l × QuickGood (l .least) (now s) × GoodSlots (l .least) (now s) ⌝ }
-    ensures { λ r. ⌜
-        ((spansMet (decode (l .least) (now (s .entry))) 5 (drop 5 (decode (l .least) (now (s .entry)) .pages)) && slotsFine (l .least) (decode (l .least) (now (s .entry)) .oldest) (decode (l .least) (now (s .entry)) .pages) (decode (l .least) (now (s .entry)) .slots)) ≡ true → 0 < r .left → r .fine ≡ quick (l .least) (decode (l .least) (now (s .entry)))) ⌝ }
+    ensures { λ r. ⌜ (ledRight (l .least) (decode (l .least) (now (s .entry))) ≡ true → 0 < r .left
+        → r .fine ≡ quick (l .least) (decode (l .least) (now (s .entry)))) ⌝ }
 {
     let h = store::header(s, l);
     let size = store::size(s, l);
@@ -65,8 +63,7 @@ fn pages_within(s: &[u8], l: Limits) -> Within
 // budget is used up. For check, which asks the notes in either case, and so asks them once.
 pub fn surely(s: &[u8], l: Limits, fit: bool) -> bool
     requires { ⌜ Edition l × QuickGood (l .least) (now s) × GoodSlots (l .least) (now s)
-        × (fit ≡ (spansMet (decode (l .least) (now s)) 5 (drop 5 (decode (l .least) (now s) .pages))
-        && slotsFine (l .least) (decode (l .least) (now s) .oldest) (decode (l .least) (now s) .pages) (decode (l .least) (now s) .slots))) ⌝ }
+        × (fit ≡ ledRight (l .least) (decode (l .least) (now s))) ⌝ }
     ensures { λ r. ⌜ (r ≡ true → quick (l .least) (decode (l .least) (now (s .entry))) ≡ true) ⌝ }
 {
     if !fit {
@@ -98,8 +95,7 @@ fn missed(s: &[u8], l: Limits, h: Header, v: u32) -> bool
 // answer is right does not rest on it.
 fn by_notes(s: &[u8], l: Limits, h: Header) -> bool
     requires { ⌜ Edition l × Ready (l .least) (now s) h × ThreeRules (l .least) (decode (l .least) (now s))
-        × ((spansMet (decode (l .least) (now s)) 5 (drop 5 (decode (l .least) (now s) .pages))
-        && slotsFine (l .least) (decode (l .least) (now s) .oldest) (decode (l .least) (now s) .pages) (decode (l .least) (now s) .slots)) ≡ true) ⌝ }
+        × (ledRight (l .least) (decode (l .least) (now s)) ≡ true) ⌝ }
     ensures { λ r. ⌜ r ≡ quick (l .least) (decode (l .least) (now (s .entry))) ⌝ }
 {
     let b = notes::both_hold(s, l, h);

@@ -2,27 +2,27 @@
 use model::Limits;
 ghost use mathlib.Core.Path.{_≡_};
 ghost use mathlib.Core.Bool.{true};
-ghost use Prim.Native.Nat.{_+_, _*_, _-_, _≤_, min};
+ghost use Prim.Native.Nat.{suc, _+_, _*_, _-_, _≤_, min};
 ghost use lib.ListN.{length};
 ghost use Rattle.model.specs.Basic.{all, those, inOrder};
 ghost use Rattle.model.specs.Entry.{before};
 ghost use Rattle.model.specs.Limits.{Edition};
 ghost use Rattle.model.specs.Layout.{readEntry, readEntries, decodePage};
-ghost use Rattle.spans.specs.Quick.{kept, apart, lowOver, keyOver, liveCount, manyOver, fineOver, pastAll};
+ghost use Rattle.spans.specs.Quick.{kept, apart, lowOver, keyOver, manyOver, fineOver, pastAll};
 ghost use Rattle.model.specs.Inner.{throughout};
 ghost use Rattle.page.specs.Head.{readHead};
 ghost use Rattle.notes.specs.Linked.{EntryRoom};
-ghost use Rattle.quick.specs.Part.{endFine, highOver};
+ghost use Rattle.quick.specs.Part.{endFine, highOver, keyFine};
 
-// The live keys are at least low.
-fn low_each(page: &[u8], n: usize, low: u32, a: u32, b: u32) -> bool
+// The live keys are under k, or they are at least k, as `under` says.
+fn keys_each(page: &[u8], n: usize, k: u32, under: bool, a: u32, b: u32) -> bool
     requires { ⌜ EntryRoom (now page) n ⌝ }
-    ensures { λ r. ⌜ r ≡ lowOver low a b (readEntries (now (page .entry)) 128 n) ⌝ }
+    ensures { λ r. ⌜ r ≡ all (keyFine under k a b) (readEntries (now (page .entry)) 128 n) ⌝ }
 {
     let mut i = 0;
     while i < n {
         let e = page::entry_at(page, i);
-        if !crate::entry::low_fine(low, a, b, e) {
+        if !crate::entry::key_fine(k, under, a, b, e) {
             return false;
         }
         i += 1;
@@ -30,7 +30,7 @@ fn low_each(page: &[u8], n: usize, low: u32, a: u32, b: u32) -> bool
     true
 }
 
-// The same. Entries stand by key, so that where the first one's is at least low all are.
+// The live keys are at least low. Entries stand by key, so that where the first one's is all are.
 fn low_over(page: &[u8], n: usize, low: u32, a: u32, b: u32) -> bool
     requires { ⌜ EntryRoom (now page) n × (inOrder before (readEntries (now page) 128 n) ≡ true) ⌝ }
     ensures { λ r. ⌜ r ≡ lowOver low a b (readEntries (now (page .entry)) 128 n) ⌝ }
@@ -42,26 +42,10 @@ fn low_over(page: &[u8], n: usize, low: u32, a: u32, b: u32) -> bool
     if low <= e.key {
         return true;
     }
-    low_each(page, n, low, a, b)
+    keys_each(page, n, low, false, a, b)
 }
 
-// The live keys are under h.
-fn high_each(page: &[u8], n: usize, h: u32, a: u32, b: u32) -> bool
-    requires { ⌜ EntryRoom (now page) n ⌝ }
-    ensures { λ r. ⌜ r ≡ highOver h a b (readEntries (now (page .entry)) 128 n) ⌝ }
-{
-    let mut i = 0;
-    while i < n {
-        let e = page::entry_at(page, i);
-        if !crate::entry::high_fine(h, a, b, e) {
-            return false;
-        }
-        i += 1;
-    }
-    true
-}
-
-// The same. Entries stand by key, so that where the last one's is under h all are.
+// The live keys are under h. Entries stand by key, so that where the last one's is all are.
 pub(crate) fn high_over(page: &[u8], n: usize, h: u32, a: u32, b: u32) -> bool
     requires { ⌜ EntryRoom (now page) n × (inOrder before (readEntries (now page) 128 n) ≡ true) ⌝ }
     ensures { λ r. ⌜ r ≡ highOver h a b (readEntries (now (page .entry)) 128 n) ⌝ }
@@ -73,7 +57,7 @@ pub(crate) fn high_over(page: &[u8], n: usize, h: u32, a: u32, b: u32) -> bool
     if e.key < h {
         return true;
     }
-    high_each(page, n, h, a, b)
+    keys_each(page, n, h, true, a, b)
 }
 
 // An entry with the key k is alive throughout.
@@ -112,10 +96,10 @@ pub(crate) fn past_behind(page: &[u8], n: usize, i: usize, a: u32, b: u32) -> u3
     crate::entry::smaller(b, t)
 }
 
-// How many are alive at v. Once there are m no more are counted.
-fn live_count(page: &[u8], n: usize, m: usize, v: u32) -> usize
+// How many are alive from a on through z. Once there are m no more are counted.
+fn through_count(page: &[u8], n: usize, m: usize, a: u32, z: u32) -> usize
     requires { ⌜ EntryRoom (now page) n ⌝ }
-    ensures { λ r. ⌜ r ≡ min m (liveCount v (readEntries (now (page .entry)) 128 n)) ⌝ }
+    ensures { λ r. ⌜ r ≡ min m (length (those (throughout a (suc z)) (readEntries (now (page .entry)) 128 n))) ⌝ }
 {
     let mut c = 0;
     let mut i = 0;
@@ -124,25 +108,7 @@ fn live_count(page: &[u8], n: usize, m: usize, v: u32) -> usize
             return c;
         }
         let e = page::entry_at(page, i);
-        c += crate::entry::live_one(e, v);
-        i += 1;
-    }
-    c
-}
-
-// How many are alive throughout. Once there are m no more are counted.
-fn through_count(page: &[u8], n: usize, m: usize, a: u32, b: u32) -> usize
-    requires { ⌜ EntryRoom (now page) n ⌝ }
-    ensures { λ r. ⌜ r ≡ min m (length (those (throughout a b) (readEntries (now (page .entry)) 128 n))) ⌝ }
-{
-    let mut c = 0;
-    let mut i = 0;
-    while i < n {
-        if m <= c {
-            return c;
-        }
-        let e = page::entry_at(page, i);
-        c += crate::entry::through_one(e, a, b);
+        c += crate::entry::through_one(e, a, z);
         i += 1;
     }
     c
@@ -157,7 +123,7 @@ fn end_fine(page: &[u8], n: usize, i: usize, m: usize, a: u32, b: u32) -> bool
     if !crate::entry::ends_in(e, a, b) {
         return true;
     }
-    m <= live_count(page, n, m, e.end)
+    m <= through_count(page, n, m, e.end, e.end)
 }
 
 fn ends_over(page: &[u8], n: usize, m: usize, a: u32, b: u32) -> bool
@@ -180,11 +146,11 @@ fn many_over(page: &[u8], n: usize, m: usize, a: u32, b: u32) -> bool
     ensures { λ r. ⌜ r ≡ manyOver m a b (readEntries (now (page .entry)) 128 n) ⌝ }
 {
     if a < b {
-        if m <= through_count(page, n, m, a, b) {
+        if m <= through_count(page, n, m, a, b - 1) {
             return true;
         }
     }
-    if live_count(page, n, m, a) < m {
+    if through_count(page, n, m, a, a) < m {
         return false;
     }
     ends_over(page, n, m, a, b)

@@ -26,10 +26,10 @@ unfoldable pub openOk : ℕ → ℕ → Bool → ℕ → ℕ → List Pair → B
 openOk least rule root up low xs =
     pick (eqb rule 4) (eqb up 0 || startsAt low xs) (not (eqb rule 5) || leb (fewest least root up) (length xs))
 
-unfoldable pub stepOk : ℕ → ℕ → ℕ → ℕ → ℕ → Bool
+unfoldable pub stepOk : (rule low high next key : ℕ) → Bool
 stepOk rule low high next key = not (eqb rule 4) || (within low high key && ltb key next)
 
-unfoldable pub chainOk : ℕ → ℕ → ℕ → List Pair → Bool
+unfoldable pub chainOk : (rule low high : ℕ) (xs : List Pair) → Bool
 chainOk rule low high [] = true
 chainOk rule low high (x ∷ xs) = stepOk rule low high (firstKey xs high) (x .key) && chainOk rule low high xs
 
@@ -46,7 +46,7 @@ restOf it c = record { page = it .page; up = it .up; root = it .root; low = it .
 
 -- ---- the live pairs of a page from place i on
 
-unfoldable pub pairsFrom : List ℕ → ℕ → ℕ → ℕ → List Pair
+unfoldable pub pairsFrom : (p : List ℕ) (v i n : ℕ) → List Pair
 pairsFrom p v i n = map pairOf (those (liveAt v) (readEntries p (128 + 96 * i) (n - i)))
 
 -- r is the place of the first live entry from i on, or n
@@ -59,10 +59,10 @@ pub record NextLive (p : List ℕ) (v i n r : ℕ) : Type 0 where
 
 -- ---- what a walk from page r, up levels above the leaves, tells
 
-unfoldable pub whole : ℕ → List ℕ → ℕ → ℕ → ℕ → List Seen
+unfoldable pub whole : (least : ℕ) (s : List ℕ) (up v r : ℕ) → List Seen
 whole least s up v r = seenBelow up (decode least s .pages) v true 0 keyLimit r
 
-unfoldable pub wholeIn : ℕ → List ℕ → ℕ → ℕ → ℕ → ℕ → List Seen
+unfoldable pub wholeIn : (least : ℕ) (s : List ℕ) (up a b r : ℕ) → List Seen
 wholeIn least s up a b r = over (λ (v : ℕ). whole least s up v r) a b
 
 abbrev pub isNumber : ℕ → Seen → Bool

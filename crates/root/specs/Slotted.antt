@@ -9,7 +9,9 @@ use Rattle.model.specs.declared.Limits.{Limits}
 use Rattle.model.specs.declared.Slot.{Slot}
 use Rattle.model.specs.Basic.{all, inOrder}
 use Rattle.model.specs.Store.{next}
-use Rattle.model.specs.Layout.{decode}
+use Rattle.model.specs.Layout.{decode, encode}
+use Rattle.model.specs.Climb.{putSlot}
+use Rattle.store.specs.Set.{withSlots}
 
 -- the slots of the store
 abbrev pub slotsOf : Limits → List ℕ → List Slot
@@ -21,3 +23,7 @@ pub record Slotted (l : Limits) (b : List ℕ) : Type 0 where
   pub rises : inOrder (λ (x y : Slot). ltb (x .version) (y .version)) (slotsOf l b) ≡ true
   pub upto : all (λ (x : Slot). leb (x .version) (next (decode (l .least) b))) (slotsOf l b) ≡ true
   pub low : next (decode (l .least) b) < 2 ^ 20
+
+-- "A new root takes the directory slot of the open version, or replaces it there": page n has it
+abbrev pub withOpenSlot : (l : Limits) (b : List ℕ) (n : ℕ) → List ℕ
+withOpenSlot l b n = encode (l .least) (withSlots (decode (l .least) b) (putSlot (next (decode (l .least) b)) n (slotsOf l b)))

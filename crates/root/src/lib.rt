@@ -19,7 +19,7 @@ ghost use Rattle.gather.specs.Gather.{Good, pairsIn};
 ghost use Rattle.gather.specs.Kept.{Fits};
 ghost use Rattle.parts.specs.Kept.{ExactBytes, Inside, pagesOf};
 ghost use Rattle.parts.specs.Becomes.{Becomes};
-ghost use Rattle.root.specs.Root.{rootedOf};
+ghost use Rattle.root.specs.Root.{Roots};
 
 // What comes of the root: it stays the root, or another page becomes it, or a page is lacking.
 pub enum Rooted {
@@ -44,8 +44,8 @@ fn give_way(s: &mut [u8], l: Limits, w: u32, n: usize, want: Gather) -> usize
 pub fn work_root(s: &mut [u8], l: Limits, w: u32, n: usize, c: Change, size: usize) -> Rooted
     requires { ⌜ ExactBytes l (now s) × Inside l (now s) n × Fits c × (w < 2 ^ 20) × (size ≡ length (pagesOf l (now s)))
         × (page (pagesOf l (now s)) n .level < 15) ⌝ }
-    ensures { λ r. ⌜ (rootedOf r (pagesOf l (now (s .exit))) ≡ workRoot (l .least) w (pagesOf l (now (s .entry))) n (changeOf c))
-        × Becomes l (now (s .entry)) (now (s .exit)) (pagesOf l (now (s .exit))) ⌝ }
+    ensures { λ r. ⌜ Roots l (now (s .entry)) (now (s .exit))
+        (workRoot (l .least) w (pagesOf l (now (s .entry))) n (changeOf c)) r ⌝ }
 {
     let want = parts::wanted_of(s, l, n, w, c);
     if group::goes(s, l, n, want.n) {

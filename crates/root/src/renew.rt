@@ -14,9 +14,8 @@ ghost use Rattle.model.specs.Climb.{newRoot};
 ghost use Rattle.edit.specs.Fill.{Fitting};
 ghost use Rattle.gather.specs.Gather.{Lists};
 ghost use Rattle.parts.specs.Kept.{ExactBytes, pagesOf};
-ghost use Rattle.parts.specs.Becomes.{Becomes};
 ghost use Rattle.group.specs.Group.{routersOf, groupOf, Grouped};
-ghost use Rattle.root.specs.Root.{rootedOf};
+ghost use Rattle.root.specs.Root.{Roots};
 ghost use Rattle.root.specs.Renew.{aloneWith};
 
 // The root's group: no neighbour is gathered, and its low key is 0.
@@ -50,8 +49,8 @@ fn both(x: Pair, y: Pair) -> Gather
 fn crown(s: &mut [u8], l: Limits, w: u32, level: u32, rs: Routers, size: usize) -> Rooted
     requires { ⌜ ExactBytes l (now s) × (w < 2 ^ 20) × (level < 15) × Fitting (rs .first) × Fitting (rs .second)
         × (size ≡ length (pagesOf l (now s))) ⌝ }
-    ensures { λ r. ⌜ (rootedOf r (pagesOf l (now (s .exit))) ≡ newRoot w level (rebuilt (pagesOf l (now (s .entry))) (routersOf rs)))
-        × Becomes l (now (s .entry)) (now (s .exit)) (pagesOf l (now (s .exit))) ⌝ }
+    ensures { λ r. ⌜ Roots l (now (s .entry)) (now (s .exit))
+        (newRoot w level (rebuilt (pagesOf l (now (s .entry))) (routersOf rs))) r ⌝ }
 {
     let x = rs.first;
     if !rs.two {
@@ -68,8 +67,8 @@ fn crown(s: &mut [u8], l: Limits, w: u32, level: u32, rs: Routers, size: usize) 
 // A root at a level is rebuilt; nothing is written if there is no page for it.
 pub(crate) fn new_root(s: &mut [u8], l: Limits, w: u32, level: u32, g: Group, size: usize) -> Rooted
     requires { ⌜ ExactBytes l (now s) × Grouped l (now s) g × (w < 2 ^ 20) × (level < 15) × (size ≡ length (pagesOf l (now s))) ⌝ }
-    ensures { λ r. ⌜
-        (rootedOf r (pagesOf l (now (s .exit))) ≡ newRoot w level (rebuild (l .least) w level (pagesOf l (now (s .entry))) (groupOf g))) × Becomes l (now (s .entry)) (now (s .exit)) (pagesOf l (now (s .exit))) ⌝ }
+    ensures { λ r. ⌜ Roots l (now (s .entry)) (now (s .exit))
+        (newRoot w level (rebuild (l .least) w level (pagesOf l (now (s .entry))) (groupOf g))) r ⌝ }
 {
     let u = group::usable(s, l, w, g.routers, size);
     let all = g.all;

@@ -5,13 +5,10 @@ ghost use mathlib.Core.Path.{_≡_};
 ghost use mathlib.Core.Bool.{true, false};
 ghost use Prim.Native.Nat.{_*_, _<_};
 ghost use lib.ListN.{length};
-ghost use Rattle.model.specs.Store.{next};
-ghost use Rattle.model.specs.Layout.{decode, encode};
-ghost use Rattle.model.specs.Climb.{putSlot};
+ghost use Rattle.model.specs.Layout.{decode};
 ghost use Rattle.model.specs.Needs.{hasSlot, slotLeft};
-ghost use Rattle.store.specs.Set.{withSlots};
 ghost use Rattle.parts.specs.Kept.{ExactBytes, Inside};
-ghost use Rattle.root.specs.Slotted.{Slotted, slotsOf};
+ghost use Rattle.root.specs.Slotted.{Slotted, slotsOf, withOpenSlot};
 
 // Whether the open version has its slot.
 fn has_slot(s: &[u8], l: Limits) -> bool
@@ -35,8 +32,7 @@ pub fn slot_left(s: &[u8], l: Limits) -> bool
 // The open version's slot leads to page n from now on.
 fn replace_slot(s: &mut [u8], l: Limits, n: usize)
     requires { ⌜ ExactBytes l (now s) × Inside l (now s) n × Slotted l (now s) × (hasSlot (decode (l .least) (now s)) ≡ true) ⌝ }
-    ensures { λ _. ⌜ now (s .exit) ≡ encode (l .least)
-        (withSlots (decode (l .least) (now (s .entry))) (putSlot (next (decode (l .least) (now (s .entry)))) n (slotsOf l (now (s .entry))))) ⌝ }
+    ensures { λ _. ⌜ now (s .exit) ≡ withOpenSlot l (now (s .entry)) n ⌝ }
 {
     let h = store::header(s, l);
     store::put_slot(
@@ -54,8 +50,7 @@ fn replace_slot(s: &mut [u8], l: Limits, n: usize)
 fn add_slot(s: &mut [u8], l: Limits, n: usize)
     requires { ⌜ ExactBytes l (now s) × Inside l (now s) n × Slotted l (now s) × (hasSlot (decode (l .least) (now s)) ≡ false)
         × (length (slotsOf l (now s)) < 64 * l .least) ⌝ }
-    ensures { λ _. ⌜ now (s .exit) ≡ encode (l .least)
-        (withSlots (decode (l .least) (now (s .entry))) (putSlot (next (decode (l .least) (now (s .entry)))) n (slotsOf l (now (s .entry))))) ⌝ }
+    ensures { λ _. ⌜ now (s .exit) ≡ withOpenSlot l (now (s .entry)) n ⌝ }
 {
     let h = store::header(s, l);
     store::put_slot(
@@ -74,8 +69,7 @@ fn add_slot(s: &mut [u8], l: Limits, n: usize)
 pub fn take_slot(s: &mut [u8], l: Limits, n: usize)
     requires { ⌜ ExactBytes l (now s) × Inside l (now s) n × Slotted l (now s)
         × (slotLeft (l .least) (decode (l .least) (now s)) ≡ true) ⌝ }
-    ensures { λ _. ⌜ now (s .exit) ≡ encode (l .least)
-        (withSlots (decode (l .least) (now (s .entry))) (putSlot (next (decode (l .least) (now (s .entry)))) n (slotsOf l (now (s .entry))))) ⌝ }
+    ensures { λ _. ⌜ now (s .exit) ≡ withOpenSlot l (now (s .entry)) n ⌝ }
 {
     if has_slot(s, l) {
         replace_slot(s, l, n);

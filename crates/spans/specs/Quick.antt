@@ -42,24 +42,24 @@ abbrev pub apart : Entry → Entry → Bool
 apart e f = not (eqb (e .key) (f .key)) || leb (e .end) (f .start)
 
 -- throughout the stretch the live keys are at least low
-abbrev pub lowOver : ℕ → ℕ → ℕ → List Entry → Bool
+abbrev pub lowOver : (low a b : ℕ) (es : List Entry) → Bool
 lowOver low a b es = all (λ (e : Entry). not (meets a b e) || leb low (e .key)) es
 
 -- throughout the stretch an entry with this key is alive
-abbrev pub keyOver : ℕ → ℕ → ℕ → List Entry → Bool
+abbrev pub keyOver : (k a b : ℕ) (es : List Entry) → Bool
 keyOver k a b es = leb b (pastAll a (those (λ (e : Entry). eqb (e .key) k) es))
 
 abbrev pub liveCount : ℕ → List Entry → ℕ
 liveCount v es = length (those (liveAt v) es)
 
 -- throughout the stretch at least m entries are alive: so it is at its first version, and wherever one of them ends
-abbrev pub manyOver : ℕ → ℕ → ℕ → List Entry → Bool
+abbrev pub manyOver : (m a b : ℕ) (es : List Entry) → Bool
 manyOver m a b es =
     leb m (liveCount a es) && all (λ (e : Entry). not (ltb a (e .end) && ltb (e .end) b) || leb m (liveCount (e .end) es)) es
 
 -- A page to which a slot or a router leads throughout the stretch, with that low key. "The first router's low key equals its page's low
 -- key."
-abbrev pub fineOver : ℕ → ℕ → ℕ → ℕ → Page → Bool
+abbrev pub fineOver : (m low a b : ℕ) (p : Page) → Bool
 fineOver m low a b p =
     lowOver low a b (p .entries) && (eqb (p .level) 1 || keyOver low a b (p .entries)) && manyOver m a b (p .entries)
 
@@ -67,17 +67,17 @@ fineOver m low a b p =
 
 -- Throughout the stretch an entry's key is under h, and what `f` says of its page holds wherever it is the last one alive: not
 -- while one of those behind it is.
-abbrev pub lastFine : (ℕ → ℕ → ℕ → Bool) → ℕ → ℕ → ℕ → Entry → List Entry → Bool
+abbrev pub lastFine : (f : (ℕ → ℕ → ℕ → Bool)) (h a b : ℕ) (e : Entry) (es : List Entry) → Bool
 lastFine f h a b e es =
     not (meets a b e) || (ltb (e .key) h
     && (leb (min b (e .end)) (pastAll (max a (e .start)) es) || f (pastAll (max a (e .start)) es) (min b (e .end)) (e .value)))
 
-abbrev pub lasts : (ℕ → ℕ → ℕ → Bool) → ℕ → ℕ → ℕ → List Entry → Bool
+abbrev pub lasts : (f : (ℕ → ℕ → ℕ → Bool)) (h a b : ℕ) (es : List Entry) → Bool
 lasts f h a b [] = true
 lasts f h a b (e ∷ es) = lastFine f h a b e es && lasts f h a b es
 
 -- throughout the stretch the live keys under page n, `up` levels above the leaves, are under h, if each page there is right in itself
-abbrev pub under : ℕ → List Page → ℕ → ℕ → ℕ → ℕ → Bool
+abbrev pub under : (up : ℕ) (ps : List Page) (h a b n : ℕ) → Bool
 under zero ps h a b n = lasts (λ (c d m : ℕ). true) h a b (page ps n .entries)
 under (suc up) ps h a b n = lasts (under up ps h) h a b (page ps n .entries)
 
@@ -91,7 +91,7 @@ nexts f a b (e ∷ es) = nextFine f a b e && nexts f (past a e) b es
 
 -- "A key lies from its page's low key up to, not including, the next one's": each router to a page `up` levels above the leaves, and those
 -- behind it
-abbrev pub routersFine : ℕ → ℕ → ℕ → List Page → List Entry → Bool
+abbrev pub routersFine : (least old up : ℕ) (ps : List Page) (es : List Entry) → Bool
 routersFine least old up ps [] = true
 routersFine least old up ps (e ∷ es) =
     fineOver least (e .key) (max old (e .start)) (e .end) (page ps (e .value))
@@ -110,7 +110,7 @@ abbrev pub upto : List Slot → ℕ
 upto [] = alive
 upto (x ∷ xs) = x .version
 
-abbrev pub slotFine : ℕ → ℕ → ℕ → Page → Bool
+abbrev pub slotFine : (least a b : ℕ) (p : Page) → Bool
 slotFine least a b p = leb (p .start) a && leb b (p .end) && fineOver (fewest least true (pred (p .level))) 0 a b p
 
 abbrev pub slotsFine : ℕ → ℕ → List Page → List Slot → Bool
@@ -140,6 +140,10 @@ ledTo s n = rooted (s .oldest) n (s .slots) + routedAll (s .oldest) n (drop 5 (s
 abbrev pub spansMet : Store → ℕ → List Page → Bool
 spansMet s n [] = true
 spansMet s n (p ∷ ps) = (isFree p || eqb (ledTo s n) (p .end - max (s .oldest) (p .start))) && spansMet s (suc n) ps
+
+-- the sums and the slots: rule 6, once rules 4 and 5 hold
+abbrev pub ledRight : (least : ℕ) (s : Store) → Bool
+ledRight least s = spansMet s 5 (drop 5 (s .pages)) && slotsFine least (s .oldest) (s .pages) (s .slots)
 
 -- ---- all of it
 

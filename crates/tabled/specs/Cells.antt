@@ -13,7 +13,7 @@ use Rattle.tabled.specs.Table.{behind}
 -- ---- the table
 
 -- place i of page n, if its level is up + 2 and it is right
-abbrev pub Cell : ℕ → List ℕ → ℕ → ℕ → ℕ → List ℕ → ℕ → ℕ → ℕ → Type 0
+abbrev pub Cell : (least : ℕ) (b : List ℕ) (v lo hi : ℕ) (t : List ℕ) (up n i : ℕ) → Type 0
 Cell least b v lo hi t up n i =
     pageRight least b (suc (suc up)) n ≡ true → i ≤ countAt least b n
     → getD t (n * (5 * least + 1) + i) 0 ≡ behind least b v lo hi up (pageOf least b n) (countAt least b n) i

@@ -21,7 +21,7 @@ module _ (least : ℕ) (b : List ℕ) (v lo hi : ℕ) where
   ps = decode least b .pages
 
   -- the walk of a range from page n, `up` levels above the leaves, which is to cover the key `at`
-  unfoldable pub found : ℕ → ℕ → ℕ → ℕ
+  unfoldable pub found : (up at n : ℕ) → ℕ
   found up at n = told (rangeRight least b v up hi at n) (length (rangeBelow up ps v lo hi at n))
 
   -- and those below the routers from place i of a page on

@@ -29,6 +29,14 @@ pub record Done (least : ℕ) (r : Result) : Type 0 where
 -- ---- what the work asks
 
 module _ (l : Limits) (b : List ℕ) (w : ℕ) where
+  -- what the page rules make of a change at the root, and of one from the leaf up
+  abbrev pub atRoot : ℕ → code.Change → Result
+  atRoot n c = rooted (l .least) (decode (l .least) b) (workRoot (l .least) w (pagesOf l b) n (changeOf c))
+
+  abbrev pub fromLeaf : Way → code.Change → Result
+  fromLeaf way c =
+      rooted (l .least) (decode (l .least) b) (climb (l .least) w (way .root) (upsOf (way .list) (way .n)) (changeOf c) (pagesOf l b))
+
   -- at the root
   pub record ToRoot (n : ℕ) (c : code.Change) (size : ℕ) : Type 0 where
     pub kept : ExactBytes l b
@@ -39,7 +47,7 @@ module _ (l : Limits) (b : List ℕ) (w : ℕ) where
     pub version : w ≡ next (decode (l .least) b)
     pub level : page (pagesOf l b) n .level < 15
     pub slots : Slotted l b
-    pub planned : Done (l .least) (rooted (l .least) (decode (l .least) b) (workRoot (l .least) w (pagesOf l b) n (changeOf c)))
+    pub planned : Done (l .least) (atRoot n c)
 
   -- on the whole way up
   pub record ToApply (way : Way) (c : code.Change) (size : ℕ) : Type 0 where
@@ -52,5 +60,4 @@ module _ (l : Limits) (b : List ℕ) (w : ℕ) where
     pub level : (d : changes.Change) (qs : List Page)
         → climbUp (l .least) w (upsOf (way .list) (way .n)) (changeOf c) (pagesOf l b) ≡ upward d qs → page qs (way .root) .level < 15
     pub slots : Slotted l b
-    pub planned : Done (l .least)
-        (rooted (l .least) (decode (l .least) b) (climb (l .least) w (way .root) (upsOf (way .list) (way .n)) (changeOf c) (pagesOf l b)))
+    pub planned : Done (l .least) (fromLeaf way c)

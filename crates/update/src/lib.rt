@@ -21,7 +21,7 @@ ghost use Rattle.model.specs.Store.{freeOnes, next};
 ghost use Rattle.model.specs.Walk.{keyLimit};
 ghost use Rattle.model.specs.Layout.{decode};
 ghost use Rattle.model.specs.Judged.{isSound};
-ghost use Rattle.model.specs.Climb.{climb, workRoot, rooted, update};
+ghost use Rattle.model.specs.Climb.{update};
 ghost use Rattle.model.specs.Needs.{slotLeft};
 ghost use Rattle.outlook.specs.Plan.{planUp, outlookNumber};
 ghost use Rattle.model.specs.Lent.{left};
@@ -30,7 +30,7 @@ ghost use Rattle.walk.specs.Down.{Leaf};
 ghost use Rattle.gather.specs.Kept.{Fits};
 ghost use Rattle.parts.specs.Kept.{ExactBytes, pagesOf};
 ghost use Rattle.plan.specs.Plan.{upsOf, Led};
-ghost use Rattle.update.specs.Applied.{ToRoot, ToApply};
+ghost use Rattle.update.specs.Applied.{atRoot, fromLeaf, ToRoot, ToApply};
 ghost use Rattle.update.specs.Whole.{LeavesSound};
 ghost use Rattle.root.specs.Slotted.{Slotted};
 
@@ -58,8 +58,7 @@ fn foresee(s: &[u8], l: Limits, w: u32, way: Way, c: Change, size: usize) -> u32
 // The root's work, and "the directory slot of the open version" where another page becomes the root.
 fn apply_root(s: &mut [u8], l: Limits, w: u32, n: usize, c: Change, size: usize)
     requires { ⌜ ToRoot l (now s) w n c size ⌝ }
-    ensures { λ _. ⌜ now (s .exit) ≡ left (l .least) (now (s .entry))
-        (rooted (l .least) (decode (l .least) (now (s .entry))) (workRoot (l .least) w (pagesOf l (now (s .entry))) n (changeOf c))) .store ⌝ }
+    ensures { λ _. ⌜ now (s .exit) ≡ left (l .least) (now (s .entry)) (atRoot l (now (s .entry)) w n c) .store ⌝ }
 {
     match root::work_root(s, l, w, n, c, size) {
         Rooted::Stays => {
@@ -78,8 +77,7 @@ fn apply_root(s: &mut [u8], l: Limits, w: u32, n: usize, c: Change, size: usize)
 // "Work goes from the leaf up."
 fn apply(s: &mut [u8], l: Limits, w: u32, way: Way, c: Change, size: usize)
     requires { ⌜ ToApply l (now s) w way c size ⌝ }
-    ensures { λ _. ⌜ now (s .exit) ≡ left (l .least) (now (s .entry))
-        (rooted (l .least) (decode (l .least) (now (s .entry))) (climb (l .least) w (way .root) (upsOf (way .list) (way .n)) (changeOf c) (pagesOf l (now (s .entry))))) .store ⌝ }
+    ensures { λ _. ⌜ now (s .exit) ≡ left (l .least) (now (s .entry)) (fromLeaf l (now (s .entry)) w way c) .store ⌝ }
 {
     match climb::climb_up(s, l, w, way, c, size) {
         Worked::Settled => {

@@ -1,7 +1,7 @@
 -- `difference` meets its contract. Assumes nothing.
-use Rattle.differ.specs.Listing.{deltas}
 use Rattle.differ.proofs.laws.Listing.{few-between}
 use Rattle.model.proofs.reading.Telling.{none-room, told-short, second-space, told-all}
+use Rattle.model.specs.Telling.{deltas}
 use native.Mathlib.Omega.{arith}
 use borrow.Author.Needs.{needs}
 use Rattle.differ.proofs.difference.Statement.{statement}

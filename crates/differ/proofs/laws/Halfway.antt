@@ -13,7 +13,7 @@ use Rattle.model.specs.declared.Delta.{Delta}
 use Rattle.model.specs.declared.Limits.{Limits}
 use Rattle.model.specs.Walk.{keyLimit}
 use Rattle.model.specs.Differ.{added, removed}
-use Rattle.model.specs.Telling.{Space, Gathers}
+use Rattle.model.specs.Telling.{Space, Gathers, deltas}
 use Rattle.model.proofs.reading.Telling.{space-front, Gathering, gather-start, gather-same, gather-step, gather-end}
 use Rattle.walk.specs.Sure.{Walkable}
 use Rattle.cursor.specs.declared.Under.{Under}
@@ -25,7 +25,7 @@ use Rattle.differ.specs.declared.leaves.Side.{Side}
 use Rattle.differ.specs.Merge.{compared, told, left, Onward}
 use Rattle.differ.proofs.laws.Merge.{left-start, left-end, left-on, left-step, above-above}
 use Rattle.differ.specs.Side.{rest, Ordered, At}
-use Rattle.differ.specs.Listing.{deltas, between, leftOf}
+use Rattle.differ.specs.Listing.{between, leftOf}
 use Rattle.differ.proofs.laws.Listing.{from-start, from-end}
 use Rattle.differ.specs.Leaves.{asked, inLeaves}
 use Rattle.differ.proofs.laws.Past as past

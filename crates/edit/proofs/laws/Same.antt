@@ -1,19 +1,19 @@
 -- Laws about edit/specs/Same. Assumes nothing.
 use Prim.Native.Nat.{ℕ, zero, suc}
-use mathlib.Core.Path.{_≡_, refl, sym}
+use mathlib.Core.Path.{_≡_, refl}
 use mathlib.Core.Bool.{Bool, true, false, _&&_, _||_, not}
 use mathlib.Core.List.{List, [], _∷_, _++_, map}
 use lib.Dec.{eqb}
 use native.Mathlib.Omega.{arith}
-use borrow.Author.Tests.{eq-eqb, ne-eqb, le-leb}
+use borrow.Author.Tests.{le-leb}
 use Rattle.model.specs.declared.Entry.{Entry}
 use Rattle.model.specs.Basic.{pick, has, those, keep}
 use Rattle.model.specs.Entry.{liveAt, alive, endedAt, endOne, endThose}
-use Rattle.model.specs.Page.{Page, free, killed, gone}
-use Rattle.model.specs.Calls.{back, restored, restoredEntries, revived}
+use Rattle.model.specs.Page.{Page, active, free, killed, goneIf, gone}
+use Rattle.model.specs.Calls.{backBy, back, restored, restoredEntries, revived}
 use Rattle.edit.specs.declared.sift.Rule.the-variants.{Kill, End, Back}
 use Rattle.edit.specs.Fate.{fateOf, endOf, left, endIf, amongOf, backIf}
-use Rattle.edit.specs.Sift.{sifted, siftedPage}
+use Rattle.edit.specs.Sift.{sifted, siftedPage, freedOrSifted}
 use Rattle.edit.specs.Same.{firstOf}
 
 end-one : (b : Bool) (w : ℕ) (e : Entry) (es : List Entry) → left (endIf b w e) ++ es ≡ endOne b (eqb (e .start) w) w e es
@@ -81,14 +81,16 @@ restored-is w p = rw (backs w (p .entries))
 
 -- an active page goes, or comes back, as a free one
 
-pub gone-yes : (w : ℕ) (p : Page) → p .start ≡ w → gone w p ≡ free
-gone-yes w p e = rw (eq-eqb _ _ e)
+pub gone-is : (w : ℕ) (p : Page) → freedOrSifted Kill w p ≡ gone w p
+gone-is w p = rw (killed-is w p) (at (active w p))
+  where
+    at : (b : Bool) → pick b free (killed w p) ≡ goneIf b w p
+    at true = refl
+    at false = refl
 
-pub gone-no : (w : ℕ) (p : Page) → (p .start ≡ w → ⊥) → gone w p ≡ siftedPage Kill w p
-gone-no w p e = rw (ne-eqb _ _ e) (sym (killed-is w p))
-
-pub back-yes : (w : ℕ) (p : Page) → p .start ≡ w → back w p ≡ free
-back-yes w p e = rw (eq-eqb _ _ e)
-
-pub back-no : (w : ℕ) (p : Page) → (p .start ≡ w → ⊥) → back w p ≡ siftedPage Back w p
-back-no w p e = rw (ne-eqb _ _ e) (sym (restored-is w p))
+pub back-is : (w : ℕ) (p : Page) → freedOrSifted Back w p ≡ back w p
+back-is w p = rw (restored-is w p) (at (active w p))
+  where
+    at : (b : Bool) → pick b free (restored w p) ≡ backBy b w p
+    at true = refl
+    at false = refl

@@ -1,12 +1,12 @@
 -- Laws about local/specs/Right. Assumes nothing.
 use Prim.Native.Nat.{ℕ, _+_, _*_, _<_, _≤_}
-use mathlib.Core.Bool.{Bool, true, false, _&&_, and-false, and-true}
+use mathlib.Core.Bool.{Bool, true, false, _&&_, and-assoc, and-false, and-true}
 use mathlib.Core.Path.{_≡_, ap, sym, _∙_}
 use mathlib.Core.List.{List}
 use native.Mathlib.Omega.{arith}
 use lib.Dec.{leb, eqb}
 use lib.ListN.{length, List·getD-eq-default}
-use borrow.Author.Tests.{eq-eqb, ne-eqb, lt-leb, le-leb, leb-true}
+use borrow.Author.Tests.{eq-eqb, ne-eqb, lt-leb, le-leb}
 use Rattle.model.specs.Basic.{all, pick}
 use Rattle.model.specs.Limits.{rootBits, oldestBits}
 use Rattle.model.specs.Page.{free, isFree}
@@ -16,14 +16,14 @@ use Rattle.model.specs.Layout.{pageOf, decodePage, readHeader, readSlots, decod
 use Rattle.model.specs.Clean.{zeroFrom, cleanPage, cleanFront}
 use Rattle.model.specs.declared.Slot.{Slot}
 use Rattle.model.proofs.lists.Lists.{both-true}
-use Rattle.model.proofs.sound.ByRule.{old-last}
 use Rattle.page.specs.Head.{readHead}
 use Rattle.page.proofs.laws.Read.{level-of}
 use Rattle.store.proofs.laws.Read.{count-pages, page-at, front-free, slots-of, oldest-of}
 use Rattle.local.specs.Local.{Sized}
 use Rattle.local.specs.First.{rooted}
 use Rattle.local.proofs.laws.Second.{rule2-is, two-none}
-use Rattle.local.specs.Front.{slotsFrom}
+use Rattle.local.specs.Front.{fieldsRight, slotsFrom}
+use Rattle.local.proofs.laws.First.{fields}
 use Rattle.local.proofs.laws.Front.{slots-all, some-slots}
 use Rattle.model.specs.Near.{frontRight, pageRight}
 
@@ -61,42 +61,27 @@ module _ (least : ℕ) (s : List ℕ) (size : ℕ) (z : Sized least s size) wher
 
   -- ---- header and slots
 
-  abbrev old-low : Bool
-  old-low = leb (decode least s .oldest) (pick (leb least 4) 0 (decode least s .current))
-
-  front-is : frontRight least s
-      ≡ (cleanFront least s
-      && (leb (last (decode least s)) 1048574 && (old-low && (rooted size (readSlots s (512 * least) roots) && rule2 (decode least s)))))
+  front-is : frontRight least s ≡ (fieldsRight least s && (rooted size (readSlots s (512 * least) roots) && rule2 (decode least s)))
   unfolding frontRight
-  front-is = rw (count-pages least s (omega (arith, z .is, z .low)), z .is, slots-of least s)
+  front-is =
+      rw (count-pages least s (omega (arith, z .is, z .low)), z .is, slots-of least s)
+      (simp and-assoc)
 
-  pub front-clean : cleanFront least s ≡ false → frontRight least s ≡ false
-  front-clean a = front-is ∙ rw a
+  pub front-wrong : fieldsRight least s ≡ false → frontRight least s ≡ false
+  front-wrong a = front-is ∙ rw a
 
-  pub front-old : leb (decode least s .oldest) (pick (leb least 4) 0 (decode least s .current)) ≡ false → frontRight least s ≡ false
-  front-old k = front-is ∙ rw (k, and-false (leb (last (decode least s)) 1048574)) (and-false (cleanFront least s))
+  module _ (a : fieldsRight least s ≡ true) where
+    pub front-none : roots ≡ 0 → frontRight least s ≡ false
+    front-none c = front-is ∙ rw (a, rule2-is least s, two-none least s c) (and-false (rooted size (readSlots s (512 * least) roots)))
 
-  module _ (a : cleanFront least s ≡ true) where
-    pub front-last : 1048574 < last (decode least s) → frontRight least s ≡ false
-    front-last b = front-is ∙ rw (a, lt-leb (last (decode least s)) 1048574 b)
-
-    module _ (b : last (decode least s) ≤ 1048574)
-        (k : leb (decode least s .oldest) (pick (leb least 4) 0 (decode least s .current)) ≡ true) where
-      pub front-none : roots ≡ 0 → frontRight least s ≡ false
-      front-none c =
-          front-is ∙ rw (a, le-leb (last (decode least s)) 1048574 b, k, rule2-is least s, two-none least s c)
-          (and-false (rooted size (readSlots s (512 * least) roots)))
-
-      pub front-slots : (n o top : ℕ) → n ≡ roots → o ≡ readHeader least s .oldest → top ≡ last (decode least s) → 0 < n
-          → frontRight least s ≡ slotsFrom size o top 0 o (readSlots s (512 * least) n)
-      front-slots n o top e g f h =
-          let low : decode least s .oldest ≤ last (decode least s)
-          = old-last least (decode least s) (leb-true (decode least s .oldest) (pick (leb least 4) 0 (decode least s .current)) k) in
-          let old : readHeader least s .oldest ≤ last (decode least s) = omega (arith, low, oldest-of least s) in
-          rw (e, g, f)
-          (front-is ∙ rw (a, le-leb (last (decode least s)) 1048574 b, k, rule2-is least s)
-          (sym (slots-all size (readHeader least s .oldest) (last (decode least s)) old (readSlots s (512 * least) roots)
-          (some-slots s (512 * least) roots (rw e at h)))))
+    pub front-slots : (n o top : ℕ) → n ≡ roots → o ≡ readHeader least s .oldest → top ≡ last (decode least s) → 0 < n
+        → frontRight least s ≡ slotsFrom size o top 0 o (readSlots s (512 * least) n)
+    front-slots n o top e g f h =
+        let old : readHeader least s .oldest ≤ last (decode least s) = omega (arith, fields least s a, oldest-of least s) in
+        rw (e, g, f)
+        (front-is ∙ rw (a, rule2-is least s)
+        (sym (slots-all size (readHeader least s .oldest) (last (decode least s)) old (readSlots s (512 * least) roots)
+        (some-slots s (512 * least) roots (rw e at h)))))
 
   -- ---- one page
 

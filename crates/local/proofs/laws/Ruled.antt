@@ -13,17 +13,17 @@ use Rattle.model.specs.Basic.{all, inOrder, pick}
 use Rattle.model.specs.Entry.{before}
 use Rattle.model.specs.Limits.{rootBits, oldestBits}
 use Rattle.model.specs.Store.{last}
-use Rattle.model.specs.Sound.{spanOk, entryOk, pageFine, isPage, rule1}
+use Rattle.model.specs.Sound.{spanOk, entryOk, pageFine, isPage}
 use Rattle.model.specs.Layout.{pageOf, readEntries, decodePage, readHeader, readSlots, readPages, decode, sizeOf}
 use Rattle.model.specs.Clean.{zeroFrom, cleanPages, cleanFront, clean}
 use Rattle.model.proofs.lists.Lists.{both-true}
 use Rattle.model.proofs.lists.Bools.{same?}
-use Rattle.model.proofs.sound.ByRule.{old-last}
-use Rattle.local.specs.Local.{Sized, Ruled, IsPage, headAt, levelAt, countAt, entryAt, slotAt, entriesOk}
+use Rattle.local.specs.Local.{Sized, Ruled, IsPage, headAt, levelAt, countAt, entryAt, slotAt, entriesOk, pagesFine}
 use Rattle.local.proofs.laws.Loops.{page-of-all, entry-of-all, slot-of-all, clean-at}
 use Rattle.local.proofs.laws.Pages.{clean-count, fine-free, fine-used}
 use Rattle.local.specs.First.{rooted}
-use Rattle.local.proofs.laws.First.{oldLow, rule1-is}
+use Rattle.local.specs.Front.{fieldsRight}
+use Rattle.local.proofs.laws.First.{clean-roots, fields, clean-is}
 
 module _ (least : ℕ) (s : List ℕ) (size : ℕ) (z : Sized least s size) (r : clean least s ≡ true) where
   abbrev roots : ℕ
@@ -32,12 +32,19 @@ module _ (least : ℕ) (s : List ℕ) (size : ℕ) (z : Sized least s size) (r :
   abbrev l : ℕ
   l = last (decode least s)
 
-  both : (cleanFront least s ≡ true) × ((cleanPages least s 5 (sizeOf least s - 5) && rule1 least (decode least s)) ≡ true)
-  unfolding clean
-  both = both-true (cleanFront least s) (cleanPages least s 5 (sizeOf least s - 5) && rule1 least (decode least s)) r
-
-  pages-clean : cleanPages least s 5 (size - 5) ≡ true
-  pages-clean = rw (z .is) at (both-true (cleanPages least s 5 (sizeOf least s - 5)) (rule1 least (decode least s)) (both .1) .0)
+  parts : (fieldsRight least s ≡ true)
+      × (rooted size (readSlots s (512 * least) roots) ≡ true)
+      × (cleanPages least s 5 (size - 5) ≡ true)
+      × (all (pageFine least l size) (readPages least s 5 (size - 5)) ≡ true)
+  unfolding pagesFine
+  parts =
+      let clean-pages : Bool = cleanPages least s 5 (size - 5) in
+      let fine : Bool = all (pageFine least l size) (readPages least s 5 (size - 5)) in
+      let (a, b) = both-true (fieldsRight least s) (rooted size (readSlots s (512 * least) roots) && (clean-pages && fine))
+      (sym (clean-is least s size z) ∙ r) in
+      let (c, d) = both-true (rooted size (readSlots s (512 * least) roots)) (clean-pages && fine) b in
+      let (e, f) = both-true clean-pages fine d in
+      (a, c, e, f)
 
   counted : readHeader least s .pages ≡ sizeOf least s
   unfolding cleanFront
@@ -45,33 +52,14 @@ module _ (least : ℕ) (s : List ℕ) (size : ℕ) (z : Sized least s size) (r :
       eqb-true (readHeader least s .pages) (sizeOf least s)
       (both-true (eqb (readHeader least s .pages) (sizeOf least s))
       (zeroFrom s (74 + rootBits least + oldestBits least) (512 * least)
-      && (leb roots (64 * least) && zeroFrom s (512 * least + 32 * roots) (2560 * least))) (both .0) .0)
-
-  parts : ((leb roots (64 * least) && leb l 1048574 && oldLow least s size z && rooted size (readSlots s (512 * least) roots)) ≡ true)
-      × (all (pageFine least l size) (readPages least s 5 (size - 5)) ≡ true)
-  parts =
-      both-true (leb roots (64 * least) && leb l 1048574 && oldLow least s size z && rooted size (readSlots s (512 * least) roots))
-      (all (pageFine least l size) (readPages least s 5 (size - 5)))
-      (sym (rule1-is least s size z) ∙ both-true (cleanPages least s 5 (sizeOf least s - 5)) (rule1 least (decode least s)) (both .1) .1)
+      && (leb roots (64 * least) && zeroFrom s (512 * least + 32 * roots) (2560 * least))) (fields least s (parts .0) .0) .0)
 
   -- the oldest version is at most the last
   pub old-low : decode least s .oldest ≤ last (decode least s)
-  old-low =
-      old-last least (decode least s) (leb-true (decode least s .oldest) (pick (leb least 4) 0 (decode least s .current))
-      (both-true (leb roots (64 * least) && leb l 1048574) (oldLow least s size z)
-      (both-true (leb roots (64 * least) && leb l 1048574 && oldLow least s size z) (rooted size (readSlots s (512 * least) roots))
-      (parts .0) .0) .1))
-
-  numbers : (roots ≤ 64 * least) × (l ≤ 1048574)
-  numbers =
-      let (a, b) = both-true (leb roots (64 * least)) (leb l 1048574)
-      (both-true (leb roots (64 * least) && leb l 1048574) (oldLow least s size z)
-      (both-true (leb roots (64 * least) && leb l 1048574 && oldLow least s size z) (rooted size (readSlots s (512 * least) roots))
-      (parts .0) .0) .0) in
-      (leb-true roots (64 * least) a, leb-true l 1048574 b)
+  old-low = fields least s (parts .0) .2
 
   pub last-low : l ≤ 1048574
-  last-low = numbers .1
+  last-low = fields least s (parts .0) .1
 
   page-num : (n : ℕ) → isPage size n ≡ true → IsPage least s n
   page-num n e = let (a, b) = both-true (leb 5 n) (ltb n size) e in (leb-true 5 n a, omega (arith, z .is, ltb-true n size b))
@@ -81,10 +69,10 @@ module _ (least : ℕ) (s : List ℕ) (size : ℕ) (z : Sized least s size) (r :
     p = pageOf least s n
 
     pub fine : pageFine least l size (decodePage least p) ≡ true
-    fine = page-of-all least s (pageFine least l size) 5 (size - 5) n (parts .1) (h .0) (omega (arith, h .1, z .is))
+    fine = page-of-all least s (pageFine least l size) 5 (size - 5) n (parts .3) (h .0) (omega (arith, h .1, z .is))
 
     room : countAt least s n ≤ 5 * least
-    room = clean-count least p (clean-at least s 5 (size - 5) n pages-clean (h .0) (omega (arith, h .1, z .is)))
+    room = clean-count least p (clean-at least s 5 (size - 5) n (parts .2) (h .0) (omega (arith, h .1, z .is)))
 
     abbrev lv : Bool
     lv = leb (levelAt least s n) 7
@@ -131,10 +119,9 @@ module _ (least : ℕ) (s : List ℕ) (size : ℕ) (z : Sized least s size) (r :
         level = level;
         empty = empty;
         child = λ n i h a lt. child n h i a lt;
-        roots = numbers .0;
+        roots = clean-roots least s (fields least s (parts .0) .0);
         root = λ i lt. page-num (slotAt least s i .root)
             (slot-of-all (λ (x : Slot). isPage size (x .root)) s (512 * least) roots i
-            (both-true (leb roots (64 * least) && leb l 1048574 && oldLow least s size z) (rooted size (readSlots s (512 * least) roots))
-            (parts .0) .1) lt);
+            (parts .1) lt);
         pages = counted;
       }

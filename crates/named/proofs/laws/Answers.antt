@@ -11,7 +11,7 @@ use Rattle.model.specs.Walk.{keyLimit, rangeOf}
 use Rattle.model.specs.Layout.{decode}
 use Rattle.model.specs.Lent.{Listed, judgedFirst, rangeLent}
 use Rattle.model.specs.Named.{allKnown, barred, rangeNamedBy}
-use Rattle.near.specs.Early.{badRange}
+use Rattle.model.specs.Calls.{badRange}
 use Rattle.reads.specs.Guard.{guarded}
 use Rattle.reads.proofs.laws.Guard.{refused-by, goes-by}
 use Rattle.reads.specs.Reading.{reading}

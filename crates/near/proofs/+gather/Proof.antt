@@ -7,6 +7,7 @@ use mathlib.Core.Path.{_≡_, ap, sym, _∙_}
 use borrow.Author.Needs.{needs}
 use borrow.Fn.Kinds.{In}
 use borrow.Fn.PlainCycle.{Measures, is, falls, and}
+use Rattle.local.proofs.laws.Sizes.{head-asks}
 use Rattle.model.specs.Layout.{decode}
 use Rattle.model.specs.Walk.{between}
 use Rattle.model.specs.Entry.{pairOf}
@@ -83,8 +84,7 @@ gather-part-requires t c κs =
 
 gather-head-of-requires : (t : ℕ) → gather-lts.Need-head-of-requires (claims t) (gather-at t) gather.Post gather-Inv-loop gather-μ-loop
 gather-head-of-requires t c κs =
-    let r = c .before .before .before .pre .1 .0 in
-    (r .edition, omega (arith, c .part .ensures .1, r .edition .four), omega (arith, c .part .ensures .1, r .edition .eight))
+    head-asks (c .before .before .before .pre .1 .0 .edition) (c .part .result .now) (c .part .ensures .1)
 
 gather-settings-requires : (t : ℕ) → gather-lts.Need-settings-requires (claims t) (gather-at t) gather.Post gather-Inv-loop gather-μ-loop
 gather-settings-requires t c κs =

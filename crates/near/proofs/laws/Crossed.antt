@@ -12,10 +12,10 @@ use Rattle.model.specs.Page.{Page}
 use Rattle.model.specs.Store.{page}
 use Rattle.model.specs.Walk.{rootAt, rangeBelow, rangeOf}
 use Rattle.model.specs.Layout.{decode}
-use Rattle.model.specs.Calls.{unreadable, Rule, rule, firstOf, rangedBy}
+use Rattle.model.specs.Calls.{unreadable, Rule, rule, firstOf, rangedBy, badRange}
 use Rattle.model.specs.Near.{fromRoot, rangeRight, early, rangeNear}
 use Rattle.model.specs.Lent.{judgedFirst, Listed, listed, rangeLent}
-use Rattle.near.specs.Early.{guarded, badRange}
+use Rattle.near.specs.Early.{guarded}
 use Rattle.near.proofs.laws.Early.{chain-on, numbers}
 use Rattle.near.specs.Crossed.{answered, crossed, crossedFrom}
 

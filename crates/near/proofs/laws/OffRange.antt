@@ -13,14 +13,14 @@ use Rattle.model.specs.Page.{Page, pairsAt}
 use Rattle.model.specs.Store.{page}
 use Rattle.model.specs.Walk.{rootAt, between, followed, rangeBelow}
 use Rattle.model.specs.Layout.{pageOf, decode}
-use Rattle.model.specs.Calls.{rangedBy}
+use Rattle.model.specs.Calls.{rangedBy, badRange}
 use Rattle.model.specs.Near.{pageRight, startsBy, rangeRight}
 use Rattle.model.specs.Lent.{judgedFirst, listed, rangeLent}
 use Rattle.model.specs.Inner.{In}
 use Rattle.model.proofs.lists.Members.{bool-cases, all-in}
 use Rattle.local.proofs.laws.Right.{front-true}
 use Rattle.tabled.proofs.laws.Here.{page-of, all-of}
-use Rattle.near.specs.Early.{guarded, badRange}
+use Rattle.near.specs.Early.{guarded}
 use Rattle.near.proofs.laws.Early.{guard-front-right}
 use Rattle.near.proofs.laws.Off.{FrontAlike, page-same, right-same, directory-same, guard-same}
 use Rattle.near.specs.Crossed.{crossed}

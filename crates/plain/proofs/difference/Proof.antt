@@ -2,8 +2,8 @@
 use native.Mathlib.Omega.{arith}
 use mathlib.Core.Path.{sym, _∙_}
 use Rattle.model.proofs.reading.Telling.{none-room, counted, told-short, second-space, told-all}
+use Rattle.model.specs.Telling.{deltas}
 use Rattle.plain.specs.Items.{plainOf, from}
-use Rattle.plain.specs.Tell.{deltas}
 use Rattle.plain.proofs.laws.Tell.{differs-few, difference-old, difference-new, difference-done}
 use borrow.Author.Needs.{needs}
 use Rattle.plain.proofs.difference.Statement.{statement}

@@ -14,7 +14,7 @@ use Rattle.model.specs.declared.Entry.{Entry}
 use Rattle.model.specs.declared.Delta.{Delta}
 use Rattle.model.specs.Entry.{pair}
 use Rattle.model.specs.Walk.{keyLimit}
-use Rattle.model.specs.Calls.{rule, firstOf, pairNumbers, rangedIn, rangedBy}
+use Rattle.model.specs.Calls.{rule, firstOf, pairNumbers, rangedIn, rangedBy, badRange}
 use Rattle.model.specs.Told.{toldIn, toldBy}
 use Rattle.model.specs.Differ.{deltaNumbers, saysOf}
 use Rattle.model.specs.Lent.{Listed, listed}
@@ -24,7 +24,7 @@ use Rattle.plain.specs.Plain.{Plain, unreadable, valueAt, setting, setti
 use Rattle.plain.specs.Items.{foundOf}
 use Rattle.plain.specs.Scan.{SkipsKeys, sameFound}
 use Rattle.plain.proofs.laws.Scan.{told, told-end, told-step, told-skip, saying, keys-limit}
-use Rattle.plain.specs.Tell.{settingBy, kindBy, deltaBy, toldAs, badRange, toldWith}
+use Rattle.plain.specs.Tell.{settingBy, kindBy, deltaBy, toldAs, toldWith}
 
 -- ---- laws
 

@@ -35,17 +35,13 @@ low-all low a b e es o l =
     (all-by (λ (f : Entry). not (meets a b f) || leb low (f .key)) es
     (λ f i. low-here low a b f (omega (arith, l, before-key e f (all-in (before e) f es x i)))))
 
-module _ (p : List ℕ) (n : ℕ) (o : inOrder before (readEntries p 128 n) ≡ true) (a b : ℕ) where
-  pub low-none : (low : ℕ) → n ≡ 0 → lowOver low a b (readEntries p 128 n) ≡ true
-  unfolding readEntries
-  low-none low e = ap (λ (k : ℕ). lowOver low a b (readEntries p 128 k)) e
-
-  pub low-first : (low : ℕ) → 0 < n → low ≤ readEntry p (128 + 96 * 0) .key → lowOver low a b (readEntries p 128 n) ≡ true
-  low-first low pos l =
-      let q : readEntries p 128 n ≡ readEntry p (128 + 96 * 0) ∷ readEntries p (128 + 96 * (0 + 1)) (n - (0 + 1))
-      = rw sub-zero at (entries-step p 0 n pos) in
-      ap (lowOver low a b) q ∙ low-all low a b (readEntry p (128 + 96 * 0)) (readEntries p (128 + 96 * (0 + 1)) (n - (0 + 1)))
-      (ap (inOrder before) (sym q) ∙ o) l
+pub low-first : (p : List ℕ) (n : ℕ) → inOrder before (readEntries p 128 n) ≡ true → (low a b : ℕ) → 0 < n
+    → low ≤ readEntry p (128 + 96 * 0) .key → lowOver low a b (readEntries p 128 n) ≡ true
+low-first p n o low a b pos l =
+    let q : readEntries p 128 n ≡ readEntry p (128 + 96 * 0) ∷ readEntries p (128 + 96 * (0 + 1)) (n - (0 + 1))
+    = rw sub-zero at (entries-step p 0 n pos) in
+    ap (lowOver low a b) q ∙ low-all low a b (readEntry p (128 + 96 * 0)) (readEntries p (128 + 96 * (0 + 1)) (n - (0 + 1)))
+    (ap (inOrder before) (sym q) ∙ o) l
 
 -- the last key
 
@@ -73,10 +69,6 @@ high-all h a b p o (suc k) q l =
       before-key (readEntry p o) (readEntry p (o + 96 + 96 * k))
           (all-in (before (readEntry p o)) (readEntry p (o + 96 + 96 * k)) rest x (last-in p (o + 96) k)),
     ))) (high-all h a b p (o + 96) k y m)
-
-pub high-none : (p : List ℕ) (n h a b : ℕ) → n ≡ 0 → highOver h a b (readEntries p 128 n) ≡ true
-unfolding readEntries
-high-none p n h a b e = ap (λ (k : ℕ). highOver h a b (readEntries p 128 k)) e
 
 pub high-last : (p : List ℕ) (n : ℕ) → inOrder before (readEntries p 128 n) ≡ true → (h a b : ℕ) → 0 < n
     → readEntry p (128 + 96 * (n - 1)) .key < h → highOver h a b (readEntries p 128 n) ≡ true

@@ -1,5 +1,5 @@
 -- `quick::missed` meets its contract: a version of the store at which the walk does not mark the pages of that version. Assumes nothing.
-use mathlib.Core.Path.{_≡_, sym, _∙_}
+use mathlib.Core.Path.{sym, _∙_}
 use native.Mathlib.Omega.{arith}
 use borrow.Author.Tests.{not-true}
 use Rattle.store.proofs.laws.Read.{current-lt}

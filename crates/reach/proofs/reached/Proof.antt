@@ -8,7 +8,7 @@ use native.Mathlib.Omega.{arith}
 use borrow.Author.Tests.{not-true, not-false}
 use Rattle.reach.proofs.laws.Marked.{marked-step, marked-end}
 use Rattle.reach.specs.Versions.{markedWell}
-use Rattle.local.proofs.laws.Sizes.{part-fits}
+use Rattle.local.proofs.laws.Sizes.{part-asks, head-asks}
 use Rattle.local.specs.Local.{headAt, levelAt}
 use Rattle.model.specs.Layout.{readPages, sizeOf}
 use Rattle.model.specs.Sound.{same as sameOf}
@@ -40,20 +40,12 @@ loop-holds c =
 part-requires : tie.Need-part-requires Inv-loop μ-loop
 part-requires c κs =
     let at-start = c .before .before .before .before in
-    let a = at-start .args in (
-      at-start .pre .0,
-      part-fits (a .l .least) (at-start .pre .0 .four) (a .s .now) (c .before .loop .n)
-          (omega (arith, c .loop-test .taken, c .before .before .wide .ensures, at-start .pre .1 .sized .is)),
-      omega (arith, at-start .pre .1 .sized .long),
-    )
+    let a = at-start .args in
+    part-asks (at-start .pre .0) (a .s .now) (c .before .loop .n)
+    (omega (arith, c .loop-test .taken, c .before .before .wide .ensures, at-start .pre .1 .sized .is)) (at-start .pre .1 .sized .long)
 
 head-of-requires : tie.Need-head-of-requires Inv-loop μ-loop
-head-of-requires c κs =
-    let at-start = c .before .before .before .before .before in (
-      at-start .pre .0,
-      omega (arith, c .part .ensures .1, at-start .pre .0 .four),
-      omega (arith, c .part .ensures .1, at-start .pre .0 .eight),
-    )
+head-of-requires c κs = head-asks (c .before .before .before .before .before .pre .0) (c .part .result .now) (c .part .ensures .1)
 
 used-at-requires : tie.Need-used-at-requires Inv-loop μ-loop
 used-at-requires c κs = search needs

@@ -4,7 +4,7 @@ use mathlib.Core.Path.{_≡_, ap, sym, _∙_}
 use mathlib.Core.List.{List}
 use native.Mathlib.Omega.{arith}
 use Rattle.reach.proofs.laws.Marked.{fails, passes-six}
-use Rattle.local.proofs.laws.Sizes.{part-fits}
+use Rattle.local.proofs.laws.Sizes.{part-asks, head-asks}
 use Rattle.local.specs.Local.{levelAt}
 use Rattle.page.specs.Head.{readHead}
 use Rattle.model.specs.declared.Header.{Header}
@@ -19,20 +19,11 @@ root-at-requires c κs = let r = c .before .pre in (r .0, r .1, r .3)
 part-requires : tie.Need-part-requires
 part-requires c κs =
     let at-start = c .before .before in
-    let a = at-start .args in (
-      at-start .pre .0,
-      part-fits (a .l .least) (at-start .pre .0 .four) (a .s .now) (c .root-at .result)
-          (c .root-at .ensures .1 .isPage .1),
-      omega (arith, at-start .pre .1 .sized .long),
-    )
+    let a = at-start .args in
+    part-asks (at-start .pre .0) (a .s .now) (c .root-at .result) (c .root-at .ensures .1 .isPage .1) (at-start .pre .1 .sized .long)
 
 head-of-requires : tie.Need-head-of-requires
-head-of-requires c κs =
-    let at-start = c .before .before .before in (
-      at-start .pre .0,
-      omega (arith, c .part .ensures .1, at-start .pre .0 .four),
-      omega (arith, c .part .ensures .1, at-start .pre .0 .eight),
-    )
+head-of-requires c κs = head-asks (c .before .before .before .pre .0) (c .part .result .now) (c .part .ensures .1)
 
 wide-requires : tie.Need-wide-requires
 wide-requires c κs = search needs

@@ -14,9 +14,8 @@ use Rattle.model.specs.Limits.{Edition}
 use Rattle.model.specs.Walk.{keyLimit, lookup, rangeOf}
 use Rattle.model.specs.Layout.{decode}
 use Rattle.model.specs.Judged.{isSound}
-use Rattle.model.specs.Calls.{rule, firstOf, unreadable, lookedAt, lookedBy, get, rangedBy, range}
+use Rattle.model.specs.Calls.{rule, firstOf, unreadable, lookedAt, lookedBy, get, rangedBy, range, badRange}
 use Rattle.model.specs.Lent.{Listed, listed, lookupLent, rangeLent}
-use Rattle.near.specs.Early.{badRange}
 use Rattle.near.proofs.laws.Same.{lookup-same, range-same}
 
 module _ {l : Limits} (d : Edition l) (b : List ℕ) (h : isSound (l .least) b ≡ true) (k v : ℕ) where

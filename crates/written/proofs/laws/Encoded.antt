@@ -45,9 +45,16 @@ module _ (least : ℕ) (four : 4 ≤ least) (eight : least ≤ 8) (s : Store) (v
   unfolding headerBytes
   header-shows =
       let h = header-holds least four eight s v in
-      packed-shows (64 * least) (headerParts least (headerOf s)) (omega (arith, total-is least four eight s v, root-bits least eight, oldest-bits least)) (
+      packed-shows (64 * least) (headerParts least (headerOf s))
+      (omega (arith, total-is least four eight s v, root-bits least eight, oldest-bits least)) (
         omega arith,
-        (omega arith, (omega arith, (omega arith, (edition-small least, (h .pages, (h .current, (bit-small (s .opened), (h .roots, (h .oldest, refl))))))))),
+        (
+          omega arith,
+          (
+            omega arith,
+            (omega arith, (edition-small least, (h .pages, (h .current, (bit-small (s .opened), (h .roots, (h .oldest, refl))))))),
+          ),
+        ),
       )
 
   name-field : (at : ℕ) → at ≤ 32 → field b at 8 ≡ field header at 8
@@ -67,7 +74,8 @@ module _ (least : ℕ) (four : 4 ≤ least) (eight : least ≤ 8) (s : Store) (v
 
   name-is : take 4 b ≡ magic
   name-is =
-      let n : length (take 4 b) ≡ 4 = length-take-le 4 b (omega (arith, encoded-length least four eight s v, mul-le-mul-right (64 * least) (v .five))) in
+      let n : length (take 4 b) ≡ 4 = length-take-le 4 b
+      (omega (arith, encoded-length least four eight s v, mul-le-mul-right (64 * least) (v .five))) in
       ext-getD 0 (take 4 b) magic n (λ i l. getD-take 4 b i 0 (omega arith) ∙ name-byte i (omega arith))
 
   pub magic-ok : magicOk b ≡ true
@@ -81,13 +89,16 @@ module _ (least : ℕ) (four : 4 ≤ least) (eight : least ≤ 8) (s : Store) (v
   pub length-ok : 6 ≤ length (s .pages) → length (s .pages) ≤ 4096 → lengthOk least b ≡ true
   unfolding lengthOk
   length-ok six most =
-      let whole : length b % (64 * least) ≡ 0 = ap (λ (x : ℕ). x % (64 * least)) (encoded-length least four eight s v) ∙ mul-mod-left (length (s .pages)) (64 * least) in
-      both-intro _ _ (both-intro _ _ (eq-eqb _ 0 whole) (le-leb 6 (sizeOf least b) (omega (arith, encoded-size least four eight s v)))) (le-leb (sizeOf least b) 4096 (omega (arith, encoded-size least four eight s v)))
+      let whole : length b % (64 * least) ≡ 0 = ap (λ (x : ℕ). x % (64 * least)) (encoded-length least four eight s v)
+      ∙ mul-mod-left (length (s .pages)) (64 * least) in
+      both-intro _ _ (both-intro _ _ (eq-eqb _ 0 whole) (le-leb 6 (sizeOf least b) (omega (arith, encoded-size least four eight s v))))
+      (le-leb (sizeOf least b) 4096 (omega (arith, encoded-size least four eight s v)))
 
   pub is-clean : rule1 least s ≡ true → ((m : ℕ) → page (s .pages) m .level ≡ 0 → page (s .pages) m .entries ≡ []) → clean least b ≡ true
   unfolding clean
   is-clean one none =
-      both-intro _ _ (front-clean least four eight s v) (both-intro _ _ (all-clean least four eight s v none) (ap (rule1 least) (decode-encoded least four eight s v) ∙ one))
+      both-intro _ _ (front-clean least four eight s v)
+      (both-intro _ _ (all-clean least four eight s v none) (ap (rule1 least) (decode-encoded least four eight s v) ∙ one))
 
 rule-one : (least : ℕ) (s : Store) → sound least s ≡ true → rule1 least s ≡ true
 unfolding sound
@@ -106,7 +117,8 @@ module _ (least : ℕ) (four : 4 ≤ least) (eight : least ≤ 8) where
         length-ok = length-ok least four eight s v (d .long) (d .short);
         magic-ok = magic-ok least four eight s v;
         edition-ok = edition-ok least four eight s v;
-        is-clean = is-clean least four eight s v (rule-one least s h) (λ m e. ap (λ (p : Page). p .entries) (d .zeros m (eq-eqb (page (s .pages) m .level) 0 e)));
+        is-clean = is-clean least four eight s v (rule-one least s h)
+            (λ m e. ap (λ (p : Page). p .entries) (d .zeros m (eq-eqb (page (s .pages) m .level) 0 e)));
         is-sound = ap (sound least) (decode-encoded least four eight s v) ∙ h;
         is-counted = all-counted least four eight s d v;
       }

@@ -44,13 +44,15 @@ module _ (least : ℕ) (s : Store) (d : Sound least s) where
   front-free =
       let n : length (take 5 (s .pages)) ≡ 5 = length-take-le 5 (s .pages) (omega (arith, d .long)) in
       ext-getD free (take 5 (s .pages)) (replicate 5 free) n
-      (λ i l. getD-take 5 (s .pages) i free (omega (arith, n)) ∙ d .zeros i (d .front i (omega (arith, n))) ∙ sym (getD-replicate 5 i free free (omega (arith, n))))
+      (λ i l. getD-take 5 (s .pages) i free (omega (arith, n)) ∙ d .zeros i (d .front i (omega (arith, n)))
+      ∙ sym (getD-replicate 5 i free free (omega (arith, n))))
 
   end-low : (b : ℕ) → (b ≤ last s) ⊎ (b ≡ 1048575) → b < 2 ^ 20
   end-low b (inl h) = omega (arith, d .last-low)
   end-low b (inr h) = omega arith
 
-  value-low : (level n : ℕ) (start : ℕ) → pick (eqb level 1) (leb 1 start && ltb n 4294967296) (isPage (length (s .pages)) n) ≡ true → n < 2 ^ 32
+  value-low : (level n : ℕ) (start : ℕ) → pick (eqb level 1) (leb 1 start && ltb n 4294967296) (isPage (length (s .pages)) n) ≡ true
+      → n < 2 ^ 32
   value-low level n start h = at (eqb level 1) h
     where
       at : (b : Bool) → pick b (leb 1 start && ltb n 4294967296) (isPage (length (s .pages)) n) ≡ true → n < 2 ^ 32
@@ -58,7 +60,9 @@ module _ (least : ℕ) (s : Store) (d : Sound least s) where
       at false e = omega (arith, page-number n e)
 
   entry-sized : (n : ℕ) → isFree (page (s .pages) n) ≡ false → (k : ℕ) → FieldsFit (getD (page (s .pages) n .entries) k unused)
-  entry-sized n used k = ⊎-elim here (λ (l : length (page (s .pages) n .entries) ≤ k). rw (List·getD-eq-default (page (s .pages) n .entries) unused {n = k} l) sized-unused) (less k (length (page (s .pages) n .entries)))
+  entry-sized n used k =
+      ⊎-elim here (λ (l : length (page (s .pages) n .entries) ≤ k). rw (List·getD-eq-default (page (s .pages) n .entries) unused {n = k} l)
+      sized-unused) (less k (length (page (s .pages) n .entries)))
     where
       here : k < length (page (s .pages) n .entries) → FieldsFit (getD (page (s .pages) n .entries) k unused)
       here l =
@@ -88,13 +92,17 @@ module _ (least : ℕ) (s : Store) (d : Sound least s) where
           }
 
   slot-held : (k : ℕ) → SlotFits (getD (s .slots) k noSlot)
-  slot-held k = ⊎-elim here (λ (l : length (s .slots) ≤ k). rw (List·getD-eq-default (s .slots) noSlot {n = k} l) none-fits) (less k (length (s .slots)))
+  slot-held k =
+      ⊎-elim here (λ (l : length (s .slots) ≤ k). rw (List·getD-eq-default (s .slots) noSlot {n = k} l) none-fits)
+      (less k (length (s .slots)))
     where
       here : k < length (s .slots) → SlotFits (getD (s .slots) k noSlot)
       here l =
           let x : Slot = getD (s .slots) k noSlot in
-          let v : x .version ≤ last s = leb-true (x .version) (last s) (all-at (λ (y : Slot). leb (y .version) (last s)) noSlot (s .slots) (d .upto) k l) in
-          let r : x .root < 4096 = page-number (x .root) (all-at (λ (y : Slot). isPage (length (s .pages)) (y .root)) noSlot (s .slots) (d .roots) k l) in
+          let v : x .version ≤ last s = leb-true (x .version) (last s)
+          (all-at (λ (y : Slot). leb (y .version) (last s)) noSlot (s .slots) (d .upto) k l) in
+          let r : x .root < 4096 = page-number (x .root)
+          (all-at (λ (y : Slot). isPage (length (s .pages)) (y .root)) noSlot (s .slots) (d .roots) k l) in
           record { version = omega (arith, d .last-low); root = omega arith }
 
   old-low : (b : Bool) → s .oldest ≤ pick b 0 (s .current) → s .oldest < 2 ^ pick b 0 20

@@ -37,10 +37,12 @@ unfolding slotsBytes slotBytes
 slots-bytes [] = λ i. omega arith
 slots-bytes (x ∷ xs) = bytes-append (slotBytes x) (slotsBytes xs) (bytes-packed 4 (slotParts x) (omega arith)) (slots-bytes xs)
 
-pages-clean : (least : ℕ) (b : List ℕ) (n k : ℕ) → ((m : ℕ) → n ≤ m → m < n + k → cleanPage least (pageOf least b m) ≡ true) → cleanPages least b n k ≡ true
+pages-clean : (least : ℕ) (b : List ℕ) (n k : ℕ) → ((m : ℕ) → n ≤ m → m < n + k → cleanPage least (pageOf least b m) ≡ true)
+    → cleanPages least b n k ≡ true
 unfolding cleanPages
 pages-clean least b n zero h = refl
-pages-clean least b n (suc k) h = both-intro _ _ (h n (omega arith) (omega arith)) (pages-clean least b (n + 1) k (λ m l z. h m (omega arith) (omega arith)))
+pages-clean least b n (suc k) h =
+    both-intro _ _ (h n (omega arith) (omega arith)) (pages-clean least b (n + 1) k (λ m l z. h m (omega arith) (omega arith)))
 
 module _ (least : ℕ) (four : 4 ≤ least) (eight : least ≤ 8) (s : Store) (v : Holds least s) where
   abbrev header : List ℕ
@@ -63,27 +65,33 @@ module _ (least : ℕ) (four : 4 ≤ least) (eight : least ≤ 8) (s : Store) (v
       store-is least s ∙ ap (λ (y : List ℕ). (header ++ y) ++ pagesBytes least ps) (directory-bytes least (s .slots))
       ∙ ap (λ (y : List ℕ). y ++ pagesBytes least ps) (sym (append-assoc header x z)) ∙ append-assoc (header ++ x) z (pagesBytes least ps)
 
-  header-spare : field (encode least s) (74 + rootBits least + oldestBits least) (512 * least - (74 + rootBits least + oldestBits least)) ≡ 0
+  header-spare : field (encode least s) (74 + rootBits least + oldestBits least) (512 * least - (74 + rootBits least + oldestBits least))
+      ≡ 0
   unfolding headerBytes
   header-spare =
       let w = root-bits least eight in
       let o = oldest-bits least in
       let n : length header ≡ 64 * least = header-length least (headerOf s) in
       let t : total (headerParts least (headerOf s)) ≡ 74 + rootBits least + oldestBits least = total-is in
-      ap (λ (b : List ℕ). field b (74 + rootBits least + oldestBits least) (512 * least - (74 + rootBits least + oldestBits least))) (store-parts ∙ append-assoc header (slotsBytes (s .slots)) (zeros (4 * (64 * least - r)) ++ pagesBytes least ps))
-      ∙ field-left header (slotsBytes (s .slots) ++ (zeros (4 * (64 * least - r)) ++ pagesBytes least ps)) (74 + rootBits least + oldestBits least) (512 * least - (74 + rootBits least + oldestBits least)) (omega arith)
-      ∙ zero-field header (74 + rootBits least + oldestBits least) (512 * least - (74 + rootBits least + oldestBits least)) (λ i l h. packed-rest (64 * least) (headerParts least (headerOf s)) i (omega arith) (omega arith))
+      ap (λ (b : List ℕ). field b (74 + rootBits least + oldestBits least) (512 * least - (74 + rootBits least + oldestBits least)))
+      (store-parts ∙ append-assoc header (slotsBytes (s .slots)) (zeros (4 * (64 * least - r)) ++ pagesBytes least ps))
+      ∙ field-left header (slotsBytes (s .slots) ++ (zeros (4 * (64 * least - r)) ++ pagesBytes least ps))
+      (74 + rootBits least + oldestBits least) (512 * least - (74 + rootBits least + oldestBits least)) (omega arith)
+      ∙ zero-field header (74 + rootBits least + oldestBits least) (512 * least - (74 + rootBits least + oldestBits least))
+      (λ i l h. packed-rest (64 * least) (headerParts least (headerOf s)) i (omega arith) (omega arith))
 
   -- "Unused slots are zero."
   slots-rest : field (encode least s) (512 * least + 32 * r) (2560 * least - (512 * least + 32 * r)) ≡ 0
   slots-rest =
       let a : List ℕ = header ++ slotsBytes (s .slots) in
-      let n : length a ≡ 64 * least + 4 * r = length-append header (slotsBytes (s .slots)) ∙ omega (arith, header-length least (headerOf s), slots-length (s .slots)) in
+      let n : length a ≡ 64 * least + 4 * r = length-append header (slotsBytes (s .slots))
+      ∙ omega (arith, header-length least (headerOf s), slots-length (s .slots)) in
       let o : 512 * least + 32 * r ≡ 8 * length a + 0 = omega arith in
       let m : ℕ = 4 * (64 * least - r) in
       rw (store-parts, o)
       (field-right a (zeros m ++ pagesBytes least ps) 0 (2560 * least - (8 * length a + 0))
-      ∙ field-left (zeros m) (pagesBytes least ps) 0 (2560 * least - (8 * length a + 0)) (omega (arith, length-zeros m, v .few)) ∙ field-zeros m 0 _)
+      ∙ field-left (zeros m) (pagesBytes least ps) 0 (2560 * least - (8 * length a + 0)) (omega (arith, length-zeros m, v .few))
+      ∙ field-zeros m 0 _)
 
   pub encoded-size : sizeOf least (encode least s) ≡ length (s .pages)
   encoded-size = size-is least (length (s .pages)) (encode least s) (omega arith) (encoded-length least four eight s v)
@@ -96,10 +104,12 @@ module _ (least : ℕ) (four : 4 ≤ least) (eight : least ≤ 8) (s : Store) (v
       (both-intro _ _ (eq-eqb _ 0 header-spare) (both-intro _ _ (le-leb r (64 * least) (v .few)) (eq-eqb _ 0 slots-rest))))
 
   -- where free pages have no entries
-  pub all-clean : ((m : ℕ) → page (s .pages) m .level ≡ 0 → page (s .pages) m .entries ≡ []) → cleanPages least (encode least s) 5 (sizeOf least (encode least s) - 5) ≡ true
+  pub all-clean : ((m : ℕ) → page (s .pages) m .level ≡ 0 → page (s .pages) m .entries ≡ [])
+      → cleanPages least (encode least s) 5 (sizeOf least (encode least s) - 5) ≡ true
   all-clean none =
       pages-clean least (encode least s) 5 (sizeOf least (encode least s) - 5)
-      (λ m l h. ap (cleanPage least) (page-encoded least four eight s v m l (omega (arith, encoded-size, v .five))) ∙ encode-clean least four eight (page (s .pages) m) (v .pages m) (none m))
+      (λ m l h. ap (cleanPage least) (page-encoded least four eight s v m l (omega (arith, encoded-size, v .five)))
+      ∙ encode-clean least four eight (page (s .pages) m) (v .pages m) (none m))
 
   pages-bytes : (qs : List Page) → Bytes (pagesBytes least qs)
   unfolding pagesBytes
@@ -108,7 +118,8 @@ module _ (least : ℕ) (four : 4 ≤ least) (eight : least ≤ 8) (s : Store) (v
 
   header-bytes : Bytes header
   unfolding headerBytes
-  header-bytes = bytes-packed (64 * least) (headerParts least (headerOf s)) (omega (arith, total-is, root-bits least eight, oldest-bits least))
+  header-bytes =
+      bytes-packed (64 * least) (headerParts least (headerOf s)) (omega (arith, total-is, root-bits least eight, oldest-bits least))
 
   -- each is a byte
   pub encoded-bytes : Bytes (encode least s)

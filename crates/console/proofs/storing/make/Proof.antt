@@ -12,24 +12,24 @@ use borrow.Author.Needs.{needs}
 use Rattle.console.proofs.storing.make.Statement.{statement}
 use Rattle.console.proofs.storing.make.Tie as tie
 
-refused-requires : tie.Need-refused-requires
-refused-requires c κs = search needs
+told-requires : tie.Need-told-requires
+told-requires c κs = search needs
 
 returns : tie.Need-returns
 returns c =
     let at-start = c .before .before .before in
     let a = at-start .args in
-    subst (λ (r : Reply). Single (stored 4 (storeIn (a .bytes .now) (a .pages)) (a .n)) (a .bytes .now) r) (sym (c .refused .ensures))
+    subst (λ (r : Reply). Single (stored 4 (storeIn (a .bytes .now) (a .pages)) (a .n)) (a .bytes .now) r) (sym (c .told .ensures))
     (few-kept (a .bytes .now) (a .n) (a .pages) (omega arith) (at-start .pre .2) (omega arith))
 
-refused-requires-2 : tie.Need-refused-requires-2
-refused-requires-2 c κs = search needs
+told-requires-2 : tie.Need-told-requires-2
+told-requires-2 c κs = search needs
 
 returns-2 : tie.Need-returns-2
 returns-2 c =
     let at-start = c .before .before .before .before in
     let a = at-start .args in
-    subst (λ (r : Reply). Single (stored 4 (storeIn (a .bytes .now) (a .pages)) (a .n)) (a .bytes .now) r) (sym (c .refused2 .ensures))
+    subst (λ (r : Reply). Single (stored 4 (storeIn (a .bytes .now) (a .pages)) (a .n)) (a .bytes .now) r) (sym (c .told2 .ensures))
     (many-kept (a .bytes .now) (a .n) (a .pages) (omega arith) (at-start .pre .2) (omega arith))
 
 mul-e : tie.Need-mul-e
@@ -63,9 +63,9 @@ pub make-spec : {M : Type 1} → statement M
 make-spec =
     tie.close
     (tie.spec
-    refused-requires
+    told-requires
     returns
-    refused-requires-2
+    told-requires-2
     returns-2
     mul-e
     slice-relend-prefix-fresh

@@ -1,6 +1,5 @@
 -- `leaves::tell` meets its contract. Assumes nothing.
 use Rattle.differ.proofs.laws.Leaves.{leaf-stands, rest-ordered, same-none, both-asked}
-use Rattle.differ.specs.Listing.{deltas}
 use Rattle.model.proofs.reading.Telling.{written-none}
 use native.Mathlib.Omega.{arith}
 use Rattle.walk.proofs.laws.Sure.{covers-inside}
@@ -10,7 +9,7 @@ use mathlib.Core.Path.{sym, _∙_, subst}
 use borrow.Author.Needs.{needs}
 use Rattle.differ.proofs.leaves.tell.Statement.{statement}
 use Rattle.differ.proofs.leaves.tell.Tie as tie
-use Rattle.model.specs.Telling.{Space, Gathers}
+use Rattle.model.specs.Telling.{Space, Gathers, deltas}
 
 part-requires : tie.Need-part-requires
 part-requires c κs =

@@ -1,10 +1,9 @@
 -- `put` meets its contract. Assumes nothing.
 use borrow.Author.Tests.{not-true, not-false}
-use Rattle.differ.specs.Listing.{deltas}
 use Rattle.differ.proofs.laws.Listing.{told-same, told-one}
 use Rattle.model.proofs.reading.Telling.{written-none, write-not}
 use Rattle.model.specs.declared.Delta.{Delta}
-use Rattle.model.specs.Telling.{written}
+use Rattle.model.specs.Telling.{written, deltas}
 use lib.ListN.{length}
 use mathlib.Core.Bool.{Bool}
 use mathlib.Core.List.{List, [], _∷_}

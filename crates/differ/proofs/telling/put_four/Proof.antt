@@ -1,6 +1,6 @@
 -- `put_four` meets its contract. Assumes nothing.
-use Rattle.differ.specs.Listing.{deltas}
 use Rattle.model.proofs.reading.Telling.{write-one}
+use Rattle.model.specs.Telling.{deltas}
 use Prim.Native.Nat.{suc, _+_, _*_}
 use mathlib.Core.Path.{_≡_}
 use lib.ListN.{length-set}

@@ -24,6 +24,15 @@ sub-least c = search needs
 least-requires : tie.Need-least-requires Inv-loop μ-loop
 least-requires c κs = search needs
 
+-- so many are copied as the new text has, and as there is room for
+copied : (c : tie.After-least Inv-loop μ-loop) →
+    let a = c .before .before .before .args in
+    (c .least .result ≤ length (a .text .now)) × (c .least .result ≤ 81 - a .held .len)
+copied c =
+    let a = c .before .before .before .args in
+    let n = length (a .text .now) in let m = 81 - a .held .len in
+    (omega (arith, c .least .ensures, min-le-left n m), omega (arith, c .least .ensures, min-le-right n m))
+
 loop-holds : tie.Need-loop-holds Inv-loop μ-loop
 loop-holds c =
     let at-start = c .before .before .before in
@@ -31,44 +40,16 @@ loop-holds c =
     (omega arith, plain (h .bytes) (at-start .good .0 .1 .1 .0 .1 .0 .1), rw add-zero (sym (append-nil (take (h .len) (h .bytes)))))
 
 shared-slice-read-bytes : tie.Need-shared-slice-read-bytes Inv-loop μ-loop
-shared-slice-read-bytes c =
-    let at-start = c .before .before .before .before .before .before in
-    omega (
-      arith,
-      c .before .before .before .least .ensures,
-      min-le-left (length (at-start .args .text .now)) (81 - at-start .args .held .len),
-      min-le-right (length (at-start .args .text .now)) (81 - at-start .args .held .len),
-    )
+shared-slice-read-bytes c = omega (arith, copied (c .before .before .before))
 
 add-bytes : tie.Need-add-bytes Inv-loop μ-loop
-add-bytes c =
-    let at-start = c .before .before .before .before .before .before in
-    omega (
-      arith,
-      c .before .before .before .least .ensures,
-      min-le-left (length (at-start .args .text .now)) (81 - at-start .args .held .len),
-      min-le-right (length (at-start .args .text .now)) (81 - at-start .args .held .len),
-    )
+add-bytes c = omega (arith, copied (c .before .before .before))
 
 array-write-bytes : tie.Need-array-write-bytes Inv-loop μ-loop
-array-write-bytes c =
-    let at-start = c .before .before .before .before .before .before in
-    omega (
-      arith,
-      c .before .before .before .least .ensures,
-      min-le-left (length (at-start .args .text .now)) (81 - at-start .args .held .len),
-      min-le-right (length (at-start .args .text .now)) (81 - at-start .args .held .len),
-    )
+array-write-bytes c = omega (arith, copied (c .before .before .before))
 
 add-i : tie.Need-add-i Inv-loop μ-loop
-add-i c =
-    let at-start = c .before .before .before .before .before .before in
-    omega (
-      arith,
-      c .before .before .before .least .ensures,
-      min-le-left (length (at-start .args .text .now)) (81 - at-start .args .held .len),
-      min-le-right (length (at-start .args .text .now)) (81 - at-start .args .held .len),
-    )
+add-i c = omega (arith, copied (c .before .before .before))
 
 loop-less : tie.Need-loop-less Inv-loop μ-loop
 loop-less c = omega arith
@@ -78,34 +59,15 @@ loop-again c =
     let at-start = c .before .before .before .before .before .before in
     let a = at-start .args in
     let l = c .before .before .loop in
-    let e = c .before .before .before .least .ensures in (
+    let some = copied (c .before .before .before) in (
       omega arith,
       simp length-set (l .inv .1),
       kept-more (l .bytes) (take (a .held .len) (a .held .bytes)) (a .text .now) (a .held .len) (l .i)
-          (omega (
-            arith,
-            e,
-            min-le-left (length (at-start .args .text .now)) (81 - at-start .args .held .len),
-            min-le-right (length (at-start .args .text .now)) (81 - at-start .args .held .len),
-          ))
-          (omega (
-            arith,
-            e,
-            min-le-left (length (at-start .args .text .now)) (81 - at-start .args .held .len),
-            min-le-right (length (at-start .args .text .now)) (81 - at-start .args .held .len),
-          ))
-          (l .inv .2),
+          (omega arith) (omega arith) (l .inv .2),
     )
 
 add-t7 : tie.Need-add-t7 Inv-loop μ-loop
-add-t7 c =
-    let at-start = c .before .before .before .before .before in
-    omega (
-      arith,
-      c .before .before .least .ensures,
-      min-le-left (length (at-start .args .text .now)) (81 - at-start .args .held .len),
-      min-le-right (length (at-start .args .text .now)) (81 - at-start .args .held .len),
-    )
+add-t7 c = omega (arith, copied (c .before .before))
 
 returns : tie.Need-returns Inv-loop μ-loop
 returns c =
@@ -122,12 +84,7 @@ returns c =
     let text : take (a .held .len + n) (l .bytes) ≡ take 81 (t ++ a .text .now) =
     rw i at (l .inv .2) ∙ kept-part t (a .text .now) n room (rw len (at-least .least .ensures)) in (
       ap (λ (x : List ℕ). record { text = x; before = a .held .before }) text,
-      omega (
-        arith,
-        at-least .least .ensures,
-        min-le-left (length (at-start .args .text .now)) (81 - at-start .args .held .len),
-        min-le-right (length (at-start .args .text .now)) (81 - at-start .args .held .len),
-      ),
+      omega (arith, copied at-least),
     )
 
 pub keep-spec : {M : Type 1} → statement M

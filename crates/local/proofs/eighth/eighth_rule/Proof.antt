@@ -6,7 +6,7 @@ use borrow.Author.Tests.{not-true, not-false}
 use Rattle.model.specs.Counted.{rule8}
 use Rattle.local.proofs.laws.Eighth.{countsOk, counts-step, counts-end, eighth-none, eighth-some}
 use Rattle.local.proofs.laws.Ruled.{ruled}
-use Rattle.local.proofs.laws.Sizes.{part-fits}
+use Rattle.local.proofs.laws.Sizes.{part-asks}
 use Rattle.local.proofs.eighth.eighth_rule.Statement.{statement}
 use Rattle.local.proofs.eighth.eighth_rule.Tie as tie
 
@@ -31,12 +31,9 @@ loop-holds c =
 part-requires : tie.Need-part-requires Inv-loop μ-loop
 part-requires c κs =
     let at-start = c .before .before .before .before .before in
-    let a = at-start .args in (
-      at-start .pre .0,
-      part-fits (a .l .least) (at-start .pre .0 .four) (a .s .now) (c .before .loop .n)
-          (omega (arith, c .loop-test .taken, at-start .pre .1 .is)),
-      omega (arith, at-start .pre .1 .long),
-    )
+    let a = at-start .args in
+    part-asks (at-start .pre .0) (a .s .now) (c .before .loop .n) (omega (arith, c .loop-test .taken, at-start .pre .1 .is))
+    (at-start .pre .1 .long)
 
 counted-requires : tie.Need-counted-requires Inv-loop μ-loop
 counted-requires c κs =

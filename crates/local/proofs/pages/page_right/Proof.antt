@@ -5,7 +5,7 @@ use borrow.Author.Tests.{not-true, not-false}
 use borrow.Author.Needs.{needs}
 use Rattle.page.specs.declared.Head.{Head}
 use Rattle.local.proofs.laws.Pages.{clean-count}
-use Rattle.local.proofs.laws.Sizes.{part-fits}
+use Rattle.local.proofs.laws.Sizes.{part-asks, head-asks}
 use Rattle.local.proofs.laws.Right.{page-low, page-far, page-other, page-clean, page-rest}
 use Rattle.local.proofs.pages.page_right.Statement.{statement}
 use Rattle.local.proofs.pages.page_right.Tie as tie
@@ -26,19 +26,11 @@ part-requires : tie.Need-part-requires
 part-requires c κs =
     let at-start = c .before .before .before in
     let a = at-start .args in
-    let z = at-start .pre .1 .sized in (
-      at-start .pre .0,
-      part-fits (a .l .least) (at-start .pre .0 .four) (a .s .now) (a .n) (omega (arith, z .is, c .if2 .left)),
-      omega (arith, z .long),
-    )
+    let z = at-start .pre .1 .sized in
+    part-asks (at-start .pre .0) (a .s .now) (a .n) (omega (arith, z .is, c .if2 .left)) (z .long)
 
 head-of-requires : tie.Need-head-of-requires
-head-of-requires c κs =
-    let at-start = c .before .before .before .before in (
-      at-start .pre .0,
-      omega (arith, c .part .ensures .1, at-start .pre .0 .four),
-      omega (arith, c .part .ensures .1, at-start .pre .0 .eight),
-    )
+head-of-requires c κs = head-asks (c .before .before .before .before .pre .0) (c .part .result .now) (c .part .ensures .1)
 
 returns-3 : tie.Need-returns-3
 returns-3 c =

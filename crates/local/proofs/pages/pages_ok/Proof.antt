@@ -4,7 +4,7 @@ use mathlib.Core.Path.{_≡_, refl, sym, _∙_}
 use native.Mathlib.Omega.{arith}
 use borrow.Author.Tests.{not-true, not-false}
 use Rattle.local.proofs.laws.Pages.{clean-count, pages-fine-step, pages-fine-end}
-use Rattle.local.proofs.laws.Sizes.{part-fits}
+use Rattle.local.proofs.laws.Sizes.{part-asks}
 use Rattle.local.specs.Local.{pagesFine}
 use Rattle.local.proofs.pages.pages_ok.Statement.{statement}
 use Rattle.local.proofs.pages.pages_ok.Tie as tie
@@ -22,12 +22,9 @@ loop-holds c = (omega arith, omega (arith, c .before .pre .1 .low), refl)
 part-requires : tie.Need-part-requires Inv-loop μ-loop
 part-requires c κs =
     let at-start = c .before .before .before in
-    let a = at-start .args in (
-      at-start .pre .0,
-      part-fits (a .l .least) (at-start .pre .0 .four) (a .s .now) (c .before .loop .n)
-          (omega (arith, c .loop-test .taken, at-start .pre .1 .is)),
-      omega (arith, at-start .pre .1 .long),
-    )
+    let a = at-start .args in
+    part-asks (at-start .pre .0) (a .s .now) (c .before .loop .n) (omega (arith, c .loop-test .taken, at-start .pre .1 .is))
+    (at-start .pre .1 .long)
 
 clean-page-requires : tie.Need-clean-page-requires Inv-loop μ-loop
 clean-page-requires c κs =

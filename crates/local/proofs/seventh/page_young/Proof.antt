@@ -3,7 +3,7 @@ use Prim.Native.Nat.{_≤_, _*_}
 use mathlib.Core.Path.{_≡_, ap, sym, _∙_}
 use native.Mathlib.Omega.{arith}
 use Rattle.local.proofs.laws.Seventh.{young-free, young-other, young-here}
-use Rattle.local.proofs.laws.Sizes.{part-fits}
+use Rattle.local.proofs.laws.Sizes.{part-asks, head-asks}
 use Rattle.local.specs.Local.{headAt}
 use Rattle.page.specs.Head.{readHead}
 use Rattle.page.specs.declared.Head.{Head}
@@ -13,19 +13,11 @@ use Rattle.local.proofs.seventh.page_young.Tie as tie
 part-requires : tie.Need-part-requires
 part-requires c κs =
     let at-start = c .before in
-    let a = at-start .args in (
-      at-start .pre .0,
-      part-fits (a .l .least) (at-start .pre .0 .four) (a .s .now) (a .n) (at-start .pre .3 .1),
-      omega (arith, at-start .pre .1),
-    )
+    let a = at-start .args in
+    part-asks (at-start .pre .0) (a .s .now) (a .n) (at-start .pre .3 .1) (at-start .pre .1)
 
 head-of-requires : tie.Need-head-of-requires
-head-of-requires c κs =
-    let at-start = c .before .before in (
-      at-start .pre .0,
-      omega (arith, c .part .ensures .1, at-start .pre .0 .four),
-      omega (arith, c .part .ensures .1, at-start .pre .0 .eight),
-    )
+head-of-requires c κs = head-asks (c .before .before .pre .0) (c .part .result .now) (c .part .ensures .1)
 
 -- the page's own front
 own : (c : tie.After-head-of) →

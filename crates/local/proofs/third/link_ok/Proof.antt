@@ -5,7 +5,7 @@ use lib.Dec.{eqb}
 use native.Mathlib.Omega.{arith}
 use borrow.Author.Tests.{not-true, not-false}
 use Rattle.local.proofs.laws.Third.{link-own, link-leaf, link-child, link-level}
-use Rattle.local.proofs.laws.Sizes.{part-fits}
+use Rattle.local.proofs.laws.Sizes.{part-fits, head-asks}
 use Rattle.local.specs.Local.{headAt, lies}
 use Rattle.model.specs.Layout.{pageOf}
 use Rattle.page.specs.Head.{readHead}
@@ -61,11 +61,8 @@ part-requires c κs =
 
 head-of-requires : tie.Need-head-of-requires
 head-of-requires c κs =
-    let at-start = c .before .before .before .before .before .before .before in (
-      at-start .pre .0,
-      omega (arith, c .part .ensures .1, at-start .pre .0 .four),
-      omega (arith, c .part .ensures .1, at-start .pre .0 .eight),
-    )
+    let at-start = c .before .before .before .before .before .before .before in
+    head-asks (at-start .pre .0) (c .part .result .now) (c .part .ensures .1)
 
 lies-in-requires-2 : tie.Need-lies-in-requires-2
 lies-in-requires-2 c κs = search needs

@@ -6,7 +6,7 @@ use native.Mathlib.Nat.{sub-zero}
 use borrow.Author.Tests.{not-true, not-false}
 use Rattle.local.proofs.laws.Third.{links-free, links-used}
 use Rattle.local.proofs.laws.Loops.{all-entries-step, all-entries-end}
-use Rattle.local.proofs.laws.Sizes.{part-fits}
+use Rattle.local.proofs.laws.Sizes.{part-asks, head-asks}
 use Rattle.local.specs.Local.{headAt, linkOk, linksOk}
 use Rattle.model.specs.Layout.{pageOf, decodePage, readEntries, decode}
 use Rattle.model.specs.Basic.{all}
@@ -27,19 +27,11 @@ abbrev μ-loop : tie.MeasureT-loop
 part-requires : tie.Need-part-requires Inv-loop μ-loop
 part-requires c κs =
     let at-start = c .before in
-    let a = at-start .args in (
-      at-start .pre .0,
-      part-fits (a .l .least) (at-start .pre .0 .four) (a .s .now) (a .n) (at-start .pre .3 .1),
-      omega (arith, at-start .pre .1),
-    )
+    let a = at-start .args in
+    part-asks (at-start .pre .0) (a .s .now) (a .n) (at-start .pre .3 .1) (at-start .pre .1)
 
 head-of-requires : tie.Need-head-of-requires Inv-loop μ-loop
-head-of-requires c κs =
-    let at-start = c .before .before in (
-      at-start .pre .0,
-      omega (arith, c .part .ensures .1, at-start .pre .0 .four),
-      omega (arith, c .part .ensures .1, at-start .pre .0 .eight),
-    )
+head-of-requires c κs = head-asks (c .before .before .pre .0) (c .part .result .now) (c .part .ensures .1)
 
 -- the page's own front
 own : (c : tie.After-head-of Inv-loop μ-loop) →

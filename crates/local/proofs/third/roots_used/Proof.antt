@@ -5,7 +5,7 @@ use native.Mathlib.Omega.{arith}
 use borrow.Author.Tests.{eq-eqb, ne-eqb}
 use Rattle.local.proofs.laws.Third.{root-used-is}
 use Rattle.local.proofs.laws.Loops.{all-slots-start, all-slots-step, all-slots-end}
-use Rattle.local.proofs.laws.Sizes.{part-fits}
+use Rattle.local.proofs.laws.Sizes.{part-fits, head-asks}
 use Rattle.local.specs.Local.{slotAt, IsPage, levelAt, rootUsed}
 use Rattle.model.specs.Layout.{readSlots, readHeader, decode}
 use Rattle.model.specs.declared.Header.{Header}
@@ -76,11 +76,8 @@ part-requires c κs =
 
 head-of-requires : tie.Need-head-of-requires Inv-loop μ-loop
 head-of-requires c κs =
-    let at-start = c .before .before .before .before .before .before .before in (
-      at-start .pre .0,
-      omega (arith, c .part .ensures .1, at-start .pre .0 .four),
-      omega (arith, c .part .ensures .1, at-start .pre .0 .eight),
-    )
+    let at-start = c .before .before .before .before .before .before .before in
+    head-asks (at-start .pre .0) (c .part .result .now) (c .part .ensures .1)
 
 returns : tie.Need-returns Inv-loop μ-loop
 returns c =

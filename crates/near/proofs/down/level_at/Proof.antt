@@ -5,7 +5,7 @@ use Rattle.model.specs.Page.{Page}
 use Rattle.page.specs.declared.Head.{Head}
 use Rattle.page.proofs.laws.Read.{level-of}
 use Rattle.store.proofs.laws.Read.{page-at, front-free}
-use Rattle.local.proofs.laws.Sizes.{part-fits}
+use Rattle.local.proofs.laws.Sizes.{part-asks, head-asks}
 use Rattle.local.proofs.laws.Right.{far-free}
 use Rattle.near.proofs.down.level_at.Statement.{statement}
 use Rattle.near.proofs.down.level_at.Tie as tie
@@ -23,20 +23,11 @@ returns-2 c =
 part-requires : tie.Need-part-requires
 part-requires c κs =
     let at-start = c .before .before .before in
-    let a = at-start .args in (
-      at-start .pre .0,
-      part-fits (a .l .least) (at-start .pre .0 .four) (a .s .now) (a .n)
-          (omega (arith, at-start .pre .1 .is, c .if2 .left)),
-      omega (arith, at-start .pre .1 .long),
-    )
+    let a = at-start .args in
+    part-asks (at-start .pre .0) (a .s .now) (a .n) (omega (arith, at-start .pre .1 .is, c .if2 .left)) (at-start .pre .1 .long)
 
 head-of-requires : tie.Need-head-of-requires
-head-of-requires c κs =
-    let at-start = c .before .before .before .before in (
-      at-start .pre .0,
-      omega (arith, c .part .ensures .1, at-start .pre .0 .four),
-      omega (arith, c .part .ensures .1, at-start .pre .0 .eight),
-    )
+head-of-requires c κs = head-asks (c .before .before .before .before .pre .0) (c .part .result .now) (c .part .ensures .1)
 
 returns-3 : tie.Need-returns-3
 returns-3 c =

@@ -24,6 +24,7 @@ use Rattle.near.proofs.within.range_right.Reads as range-right
 use Rattle.near.proofs.within.range_right.Kinds as range-right-kinds
 use Rattle.near.proofs.within.+range_right.Lts-range_right as range-right-lts
 use Rattle.near.proofs.within.found.Reads as found-reads
+use Rattle.local.proofs.laws.Sizes.{head-asks}
 use Rattle.local.proofs.page_right.Reads as page-right-reads
 use Rattle.tabled.proofs.starts.Reads as starts-reads
 use Rattle.model.proofs.wide.Reads as wide-reads
@@ -195,8 +196,7 @@ range-right-part-requires t c κs =
 range-right-head-of-requires : (t : ℕ) → range-right-lts.Need-head-of-requires (claims t)
     (range-right-at t) range-right.Post range-right-Inv-loop range-right-μ-loop
 range-right-head-of-requires t c κs =
-    let at-start = c .before .before .before .before .before .before .before .before in
-    let b = at-start .pre .1 in (b .0, omega (arith, c .part .ensures .1, b .0 .four), omega (arith, c .part .ensures .1, b .0 .eight))
+    head-asks (c .before .before .before .before .before .before .before .before .pre .1 .0) (c .part .result .now) (c .part .ensures .1)
 
 range-right-own-router-requires : (t : ℕ) → range-right-lts.Need-own-router-requires (claims t)
     (range-right-at t) range-right.Post range-right-Inv-loop range-right-μ-loop

@@ -5,9 +5,8 @@ use mathlib.Core.Bool.{Bool}
 use mathlib.Core.Path.{_≡_, ap, sym, _∙_}
 use mathlib.Core.List.{[], _∷_}
 use lib.ListN.{length-set}
-use Rattle.model.specs.Telling.{written}
+use Rattle.model.specs.Telling.{written, deltas}
 use Rattle.model.proofs.reading.Telling.{write-one, write-not}
-use Rattle.plain.specs.Tell.{deltas}
 use borrow.Author.Needs.{needs}
 use Rattle.plain.proofs.tell.put_delta.Statement.{statement}
 use Rattle.plain.proofs.tell.put_delta.Tie as tie

@@ -1,9 +1,8 @@
 -- `tell_delta` meets its contract. Assumes nothing.
 use native.Mathlib.Omega.{arith}
 use mathlib.Core.Path.{refl, sym, _∙_, subst}
-use Rattle.model.specs.Telling.{Space}
+use Rattle.model.specs.Telling.{Space, deltas}
 use Rattle.model.proofs.reading.Telling.{written-none}
-use Rattle.plain.specs.Tell.{deltas}
 use Rattle.plain.proofs.laws.Tell.{delta-told, delta-none}
 use borrow.Author.Needs.{needs}
 use Rattle.plain.proofs.tell.tell_delta.Statement.{statement}

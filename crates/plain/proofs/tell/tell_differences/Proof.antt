@@ -4,10 +4,11 @@ use native.Mathlib.Omega.{arith}
 use mathlib.Core.Path.{_∙_}
 use Rattle.model.specs.Walk.{keyLimit}
 use Rattle.model.proofs.reading.Telling.{Gathering, space-front, gather-start, gather-same, gather-step, gather-end}
+use Rattle.model.specs.Telling.{deltas}
 use Rattle.plain.specs.Plain.{differs, keys}
 use Rattle.plain.specs.Items.{from}
 use Rattle.plain.proofs.laws.Scan.{told, saying, differs-told, saying-skip, saying-end}
-use Rattle.plain.specs.Tell.{deltas, deltaBy}
+use Rattle.plain.specs.Tell.{deltaBy}
 use Rattle.plain.proofs.laws.Tell.{saying-step}
 use Rattle.plain.proofs.tell.tell_differences.Statement.{statement}
 use Rattle.plain.proofs.tell.tell_differences.Tie as tie

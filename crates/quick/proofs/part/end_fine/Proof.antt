@@ -19,8 +19,8 @@ returns : tie.Need-returns
 returns c =
     rw (← c .before .before .entry-at .ensures, ← c .before .ends-in .ensures, not-true (c .before .ends-in .result) (c .if1 .taken))
 
-live-count-requires : tie.Need-live-count-requires
-live-count-requires c κs =
+through-count-requires : tie.Need-through-count-requires
+through-count-requires c κs =
     let at-start = c .before .before .before .before in
     at-start .pre .0
 
@@ -33,10 +33,10 @@ returns-2 c =
       ← at-entry-at .entry-at .ensures,
       ← at-ends-in .ends-in .ensures,
       not-false (at-ends-in .ends-in .result) (c .before .if1 .left),
-      c .live-count .ensures,
+      c .through-count .ensures,
     ) (leb-min (at-start .args .m)
     (liveCount (at-entry-at .entry-at .result .end) (readEntries (at-start .args .page .now) 128 (at-start .args .n))))
 
 pub end-fine-spec : {M : Type 1} → statement M
 end-fine-spec =
-    tie.close (tie.spec entry-at-requires ends-in-requires returns live-count-requires returns-2)
+    tie.close (tie.spec entry-at-requires ends-in-requires returns through-count-requires returns-2)

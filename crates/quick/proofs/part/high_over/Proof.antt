@@ -1,11 +1,13 @@
 use mathlib.Core.Path.{sym}
 use native.Mathlib.Omega.{arith}
-use Rattle.quick.proofs.laws.Order.{high-none, high-last}
+use Rattle.model.specs.Layout.{readEntries}
+use Rattle.quick.proofs.laws.Order.{high-last}
 use Rattle.quick.proofs.part.high_over.Statement.{statement}
 use Rattle.quick.proofs.part.high_over.Tie as tie
 
 returns : tie.Need-returns
-returns c = let a = c .before .before .args in sym (high-none (a .page .now) (a .n) (a .h) (a .a) (a .b) (c .if1 .taken))
+unfolding readEntries
+returns c = rw (c .if1 .taken)
 
 sub-entry-at : tie.Need-sub-entry-at
 sub-entry-at c = omega (arith, c .if1 .left)
@@ -22,13 +24,13 @@ returns-2 c =
     sym (high-last (a .page .now) (a .n) (at-start .pre .1) (a .h) (a .a) (a .b) (omega (arith, c .before .before .before .if1 .left))
     (rw (← c .before .before .entry-at .ensures) (c .if2 .taken)))
 
-high-each-requires : tie.Need-high-each-requires
-high-each-requires c κs =
+keys-each-requires : tie.Need-keys-each-requires
+keys-each-requires c κs =
     let at-start = c .before .before .before .before .before in
     at-start .pre .0
 
 returns-3 : tie.Need-returns-3
-returns-3 c = c .high-each .ensures
+returns-3 c = c .keys-each .ensures
 
 pub high-over-spec : {M : Type 1} → statement M
-high-over-spec = tie.close (tie.spec returns sub-entry-at entry-at-requires returns-2 high-each-requires returns-3)
+high-over-spec = tie.close (tie.spec returns sub-entry-at entry-at-requires returns-2 keys-each-requires returns-3)

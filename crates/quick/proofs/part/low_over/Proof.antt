@@ -1,13 +1,13 @@
 use mathlib.Core.Path.{sym}
 use native.Mathlib.Omega.{arith}
-use Rattle.quick.proofs.laws.Order.{low-none, low-first}
+use Rattle.model.specs.Layout.{readEntries}
+use Rattle.quick.proofs.laws.Order.{low-first}
 use Rattle.quick.proofs.part.low_over.Statement.{statement}
 use Rattle.quick.proofs.part.low_over.Tie as tie
 
 returns : tie.Need-returns
-returns c =
-    let at-start = c .before .before in
-    let a = at-start .args in sym (low-none (a .page .now) (a .n) (at-start .pre .1) (a .a) (a .b) (a .low) (c .if1 .taken))
+unfolding readEntries
+returns c = rw (c .if1 .taken)
 
 entry-at-requires : tie.Need-entry-at-requires
 entry-at-requires c κs =
@@ -18,16 +18,16 @@ returns-2 : tie.Need-returns-2
 returns-2 c =
     let at-start = c .before .before .before .before .before in
     let a = at-start .args in
-    sym (low-first (a .page .now) (a .n) (at-start .pre .1) (a .a) (a .b) (a .low) (omega (arith, c .before .before .before .if1 .left))
+    sym (low-first (a .page .now) (a .n) (at-start .pre .1) (a .low) (a .a) (a .b) (omega (arith, c .before .before .before .if1 .left))
     (rw (← c .before .before .entry-at .ensures) (c .if2 .taken)))
 
-low-each-requires : tie.Need-low-each-requires
-low-each-requires c κs =
+keys-each-requires : tie.Need-keys-each-requires
+keys-each-requires c κs =
     let at-start = c .before .before .before .before .before in
     at-start .pre .0
 
 returns-3 : tie.Need-returns-3
-returns-3 c = c .low-each .ensures
+returns-3 c = c .keys-each .ensures
 
 pub low-over-spec : {M : Type 1} → statement M
-low-over-spec = tie.close (tie.spec returns entry-at-requires returns-2 low-each-requires returns-3)
+low-over-spec = tie.close (tie.spec returns entry-at-requires returns-2 keys-each-requires returns-3)

@@ -1,4 +1,4 @@
-use Prim.Native.Nat.{_≤_, _-_, _+_, _*_}
+use Prim.Native.Nat.{suc, _≤_, _-_, _+_, _*_}
 use mathlib.Core.Path.{_≡_, ap, _∙_}
 use native.Mathlib.Omega.{arith}
 use native.Mathlib.Nat.{sub-zero}
@@ -13,13 +13,13 @@ use Rattle.quick.proofs.part.through_count.Statement.{statement}
 use Rattle.quick.proofs.part.through_count.Tie as tie
 
 abbrev Inv-loop : tie.InvT-loop
-Inv-loop page n m a b c₀ i₀ c i =
+Inv-loop page n m a z c₀ i₀ c i =
     (i ≤ n) × (c ≤ i) × (c ≤ m)
-    × (length (those (throughout a b) (readEntries page 128 n))
-    ≡ c + length (those (throughout a b) (readEntries page (128 + 96 * i) (n - i))))
+    × (length (those (throughout a (suc z)) (readEntries page 128 n))
+    ≡ c + length (those (throughout a (suc z)) (readEntries page (128 + 96 * i) (n - i))))
 
 abbrev μ-loop : tie.MeasureT-loop
-μ-loop page n m a b c₀ i₀ c i = n - i
+μ-loop page n m a z c₀ i₀ c i = n - i
 
 loop-holds : tie.Need-loop-holds Inv-loop μ-loop
 loop-holds c = (omega arith, omega arith, omega arith, rw sub-zero (omega arith))
@@ -41,16 +41,16 @@ one : (c : tie.After-through-one Inv-loop μ-loop) →
     let at-start = at-loop .before .before in
     let j = at-loop .loop in let a = at-start .args in
     (c .through-one .result ≤ 1)
-    × (length (those (throughout (a .a) (a .b)) (readEntries (a .page .now) (128 + 96 * j .i) (a .n - j .i)))
+    × (length (those (throughout (a .a) (suc (a .z))) (readEntries (a .page .now) (128 + 96 * j .i) (a .n - j .i)))
     ≡ c .through-one .result + length
-    (those (throughout (a .a) (a .b)) (readEntries (a .page .now) (128 + 96 * (j .i + 1)) (a .n - (j .i + 1)))))
+    (those (throughout (a .a) (suc (a .z))) (readEntries (a .page .now) (128 + 96 * (j .i + 1)) (a .n - (j .i + 1)))))
 one c =
     let at-loop = c .before .before .before .before in
     let at-start = at-loop .before .before in
     let j = at-loop .loop in let a = at-start .args in
-    let e = c .through-one .ensures ∙ ap (λ (x : Entry). pick (throughout (a .a) (a .b) x) 1 0) (c .before .entry-at .ensures) in (
-      rw (c .through-one .ensures) (one-most (throughout (a .a) (a .b) (c .before .entry-at .result))),
-      count-step (a .page .now) (j .i) (a .n) (throughout (a .a) (a .b)) (c .before .before .before .loop-test .taken) ∙ rw e,
+    let e = c .through-one .ensures ∙ ap (λ (x : Entry). pick (throughout (a .a) (suc (a .z)) x) 1 0) (c .before .entry-at .ensures) in (
+      rw (c .through-one .ensures) (one-most (throughout (a .a) (suc (a .z)) (c .before .entry-at .result))),
+      count-step (a .page .now) (j .i) (a .n) (throughout (a .a) (suc (a .z))) (c .before .before .before .loop-test .taken) ∙ rw e,
     )
 
 add-c : tie.Need-add-c Inv-loop μ-loop
@@ -80,7 +80,7 @@ loop-again c =
 returns-2 : tie.Need-returns-2 Inv-loop μ-loop
 returns-2 c =
     let a = c .before .before .before .args in let j = c .before .loop in
-    omega (arith, j .inv .2, j .inv .3, count-end (a .page .now) (j .i) (a .n) (throughout (a .a) (a .b)) (c .loop-test .left))
+    omega (arith, j .inv .2, j .inv .3, count-end (a .page .now) (j .i) (a .n) (throughout (a .a) (suc (a .z))) (c .loop-test .left))
 
 pub through-count-spec : {M : Type 1} → statement M
 through-count-spec =

@@ -14,7 +14,7 @@ use Rattle.reach.proofs.laws.Steps.{stops, passed, pushed, left, lighte
 use Rattle.reach.proofs.laws.Walking.{Walking, Entering, weigh-top, weigh-put}
 use Rattle.reach.specs.Pending.{restOf, stepOk}
 use Rattle.reach.proofs.laws.Pending.{none, heft, weigh}
-use Rattle.local.proofs.laws.Sizes.{part-fits}
+use Rattle.local.proofs.laws.Sizes.{part-fits, head-asks}
 use Rattle.local.specs.Local.{IsPage, countAt}
 use Rattle.model.proofs.lists.Lists.{both-true}
 use Rattle.model.specs.Layout.{readEntry}
@@ -107,11 +107,8 @@ part-requires c κs =
 
 head-of-requires : tie.Need-head-of-requires Inv-loop μ-loop Inv-walk μ-walk
 head-of-requires c κs =
-    let at-start = c .before .before .before .before .before .before .before in (
-      at-start .pre .0,
-      omega (arith, c .part .ensures .1, at-start .pre .0 .four),
-      omega (arith, c .part .ensures .1, at-start .pre .0 .eight),
-    )
+    let at-start = c .before .before .before .before .before .before .before in
+    head-asks (at-start .pre .0) (c .part .result .now) (c .part .ensures .1)
 
 -- the entries that its front counts
 counted : (c : tie.After-head-of Inv-loop μ-loop Inv-walk μ-walk) → let k = c .before .before .before .before .before .before in

@@ -14,6 +14,7 @@ use Rattle.tabled.proofs.laws.Most.{turn-most}
 use Rattle.tabled.proofs.laws.Cells.{right-low, right-count}
 use Rattle.tabled.specs.Table.{turn}
 use Rattle.tabled.proofs.laws.Inside.{level-inside}
+use Rattle.local.proofs.laws.Sizes.{head-asks}
 use Rattle.tabled.proofs.table.fill_page.Statement.{statement}
 use Rattle.tabled.proofs.table.fill_page.Tie as tie
 
@@ -35,12 +36,7 @@ part-requires c κs =
     )
 
 head-of-requires : tie.Need-head-of-requires Inv-loop μ-loop
-head-of-requires c κs =
-    let at-start = c .before .before .before in (
-      at-start .pre .0,
-      omega (arith, c .part .ensures .1, at-start .pre .0 .four),
-      omega (arith, c .part .ensures .1, at-start .pre .0 .eight),
-    )
+head-of-requires c κs = head-asks (c .before .before .before .pre .0) (c .part .result .now) (c .part .ensures .1)
 
 put-requires : tie.Need-put-requires Inv-loop μ-loop
 put-requires c κs =

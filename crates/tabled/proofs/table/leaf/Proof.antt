@@ -14,6 +14,7 @@ use Rattle.tabled.proofs.laws.Table.{found-wrong, found-leaf}
 use Rattle.tabled.proofs.laws.Bound.{right-few}
 use Rattle.tabled.proofs.laws.Across.{across-leaf}
 use Rattle.tabled.proofs.laws.Inside.{right-inside}
+use Rattle.local.proofs.laws.Sizes.{head-asks}
 use Rattle.tabled.proofs.table.leaf.Statement.{statement}
 use Rattle.tabled.proofs.table.leaf.Tie as tie
 
@@ -37,12 +38,7 @@ part-requires c κs =
     )
 
 head-of-requires : tie.Need-head-of-requires
-head-of-requires c κs =
-    let at-start = c .before .before .before .before in (
-      at-start .pre .0,
-      omega (arith, c .part .ensures .1, at-start .pre .0 .four),
-      omega (arith, c .part .ensures .1, at-start .pre .0 .eight),
-    )
+head-of-requires c κs = head-asks (c .before .before .before .before .pre .0) (c .part .result .now) (c .part .ensures .1)
 
 slice-aggregate-settings : tie.Need-slice-aggregate-settings
 slice-aggregate-settings c = search needs

@@ -13,6 +13,7 @@ use Rattle.tabled.proofs.laws.Table.{found-wrong, found-none, found-on}
 use Rattle.tabled.specs.Told.{join}
 use Rattle.tabled.proofs.laws.Told.{join-none}
 use Rattle.tabled.proofs.laws.Inside.{level-inside}
+use Rattle.local.proofs.laws.Sizes.{head-asks}
 use Rattle.tabled.proofs.table.step.Statement.{statement}
 use Rattle.tabled.proofs.table.step.Tie as tie
 
@@ -71,11 +72,8 @@ part-requires c κs =
 
 head-of-requires : tie.Need-head-of-requires
 head-of-requires c κs =
-    let at-start = c .before .before .before .before .before .before .before in (
-      at-start .pre .0,
-      omega (arith, c .part .ensures .1, at-start .pre .0 .four),
-      omega (arith, c .part .ensures .1, at-start .pre .0 .eight),
-    )
+    let at-start = c .before .before .before .before .before .before .before in
+    head-asks (at-start .pre .0) (c .part .result .now) (c .part .ensures .1)
 
 own-router-requires : tie.Need-own-router-requires
 own-router-requires c κs =

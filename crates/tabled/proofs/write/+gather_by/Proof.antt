@@ -12,6 +12,7 @@ use Rattle.model.specs.Walk.{between}
 use Rattle.model.specs.Entry.{pairOf}
 use Rattle.page.specs.declared.Head.{Head}
 use Rattle.page.specs.Head.{readHead}
+use Rattle.local.proofs.laws.Sizes.{head-asks}
 use Rattle.local.specs.Local.{countAt}
 use Rattle.page.proofs.entry_at.Reads as entry-at-reads
 use Rattle.page.proofs.head_of.Reads as head-of-reads
@@ -93,9 +94,7 @@ gather-by-part-requires t c κs =
 gather-by-head-of-requires : (t : ℕ) → gather-by-lts.Need-head-of-requires (claims t)
     (gather-by-at t) gather-by.Post gather-by-Inv-loop gather-by-μ-loop
 gather-by-head-of-requires t c κs =
-    let at-start = c .before .before .before .before in
-    let r = at-start .pre .1 .0 in
-    (r .edition, omega (arith, c .part .ensures .1, r .edition .four), omega (arith, c .part .ensures .1, r .edition .eight))
+    head-asks (c .before .before .before .before .pre .1 .0 .edition) (c .part .result .now) (c .part .ensures .1)
 
 gather-by-settings-requires : (t : ℕ) → gather-by-lts.Need-settings-requires (claims t)
     (gather-by-at t) gather-by.Post gather-by-Inv-loop gather-by-μ-loop

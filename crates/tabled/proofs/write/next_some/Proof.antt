@@ -3,6 +3,7 @@ use Prim.Native.Nat.{suc, _+_, _*_, _-_}
 use native.Mathlib.Omega.{arith}
 use mathlib.Core.Path.{_≡_, ap, _∙_}
 use lib.ListN.{getD}
+use Rattle.local.proofs.laws.Sizes.{head-asks}
 use Rattle.model.specs.Layout.{sizeOf}
 use Rattle.page.specs.Head.{readHead}
 use Rattle.page.specs.declared.Head.{Head}
@@ -32,8 +33,7 @@ part-requires c κs =
 
 head-of-requires : tie.Need-head-of-requires Inv-loop μ-loop
 head-of-requires c κs =
-    let r = c .before .before .before .pre .0 .reads in
-    (r .edition, omega (arith, c .part .ensures .1, r .edition .four), omega (arith, c .part .ensures .1, r .edition .eight))
+    head-asks (c .before .before .before .pre .0 .reads .edition) (c .part .result .now) (c .part .ensures .1)
 
 next-place-requires : tie.Need-next-place-requires Inv-loop μ-loop
 next-place-requires c κs =
