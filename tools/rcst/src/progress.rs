@@ -10,10 +10,20 @@ pub fn say(words: &str) {
     }
 }
 
+/// Milliseconds between two lines, unless RCST_PROGRESS says another number.
+const USUAL: u64 = 200;
+
+fn pause() -> Duration {
+    let said = std::env::var("RCST_PROGRESS").ok();
+    let number = said.and_then(|word| word.parse().ok());
+    Duration::from_millis(number.unwrap_or(USUAL))
+}
+
 /// A line that is written over: what is done, and how far.
 pub struct Progress {
     what: &'static str,
     shown: Option<Instant>,
+    pause: Duration,
     seen: bool,
 }
 
@@ -23,13 +33,14 @@ impl Progress {
         Progress {
             what,
             shown,
+            pause: pause(),
             seen: false,
         }
     }
 
     pub fn step(&mut self, done: usize, of: usize) {
         let Some(shown) = &mut self.shown else { return };
-        if shown.elapsed() > Duration::from_millis(200) {
+        if shown.elapsed() >= self.pause {
             *shown = Instant::now();
             self.seen = true;
             eprint!("\r{}: {done} of {of}", self.what);

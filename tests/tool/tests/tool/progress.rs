@@ -6,9 +6,12 @@ use std::fmt::Write;
 use tool::Folder;
 
 /// What a command writes on a terminal, its input from a file, or nothing where
-/// this machine has no `script`.
+/// this machine has no `script`. It is asked to say each step: a quick machine may
+/// be through before it would say one.
 fn on_a_terminal(folder: &Folder, command: &str) -> Option<String> {
-    let said = folder.script(&format!("script -qec '{command}' /dev/null"));
+    let said = folder.script(&format!(
+        "RCST_PROGRESS=0 script -qec '{command}' /dev/null"
+    ));
     if said.status == 127 {
         eprintln!("not tried, for want of a terminal: {}", said.err);
         return None;
