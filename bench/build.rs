@@ -1,4 +1,4 @@
-//! Links the proved libraries that are measured beside the offered one: as `rt staticlib` writes them, or, on
+//! Links the proved libraries that are measured beside the offered one: as `rt lib` writes them, or, on
 //! another processor than x86-64, `bench/native`.
 
 use std::path::Path;

@@ -14,7 +14,7 @@ const LINES: usize = 10_000;
 
 /// The kit's console, which is one for x86-64; where `bench/run` made one for this processor, that.
 fn proved() -> PathBuf {
-    let kit = concat!(env!("CARGO_MANIFEST_DIR"), "/../target/bin/console");
+    let kit = concat!(env!("CARGO_MANIFEST_DIR"), "/../crates/console/out/console");
     std::env::var_os("RCST_CONSOLE").map_or_else(|| kit.into(), PathBuf::from)
 }
 

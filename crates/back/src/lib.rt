@@ -2,6 +2,8 @@
 // it inserts what is missing, each in rising key order and each exactly as the single call". Each step is foreseen before it writes, and
 // nothing is judged again in between: a step leaves a sound store. What differs is asked of the cursors anew at each step, so no list
 // is kept.
+#![tactic(auto)]
+
 ghost use Rattle.std.specs.Prelude.{◌≡◌, true, false, ◌≤◌};
 ghost use Rattle.model.specs.Walk.{key_limit};
 ghost use Rattle.model.specs.Layout.{decode};

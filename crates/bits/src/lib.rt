@@ -1,4 +1,6 @@
 // Bit fields of a byte slice, packed with the most significant bit first.
+#![tactic(auto)]
+
 ghost use Rattle.std.specs.Prelude.{◌≡◌, ◌+◌, ◌*◌, ◌-◌, ◌/◌, ◌%◌, ◌^◌, ◌≤◌, ◌<◌, length};
 ghost use Rattle.model.specs.Field.{field, put_field};
 

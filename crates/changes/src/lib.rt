@@ -1,5 +1,7 @@
 // The calls that change a store, for any bytes lent and the limits of an edition: each is its guard, which judges the store and then goes
 // through the call's refusals in order, and a core that rests on a sound store. A caller that is sure of its store has sure.rt.
+#![tactic(auto)]
+
 mod pruning;
 mod returning;
 pub mod sure;

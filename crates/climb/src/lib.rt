@@ -1,4 +1,6 @@
 // The page rules applied to a store, level by level, from the leaf up to below the root.
+#![tactic(auto)]
+
 mod refill;
 
 ghost use Rattle.std.specs.Prelude.{◌≡◌, ◌^◌, ◌<◌, length};

@@ -7,3 +7,4 @@ pub mod Telling
 pub mod Passing
 pub mod Replying
 pub mod Whole
+pub mod Pieces

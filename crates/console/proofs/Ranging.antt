@@ -14,7 +14,7 @@ use Rattle.model.specs.Layout.{decode}
 use Rattle.model.specs.Judged.{length_ok}
 use Rattle.model.specs.Near.{range_near}
 use Rattle.model.specs.Calls.{Ranged, rule, first_of, ranged_in, ranged_by}
-use Rattle.model.specs.Lent.{Listed, listed, range_lent}
+use Rattle.model.specs.Lent.{Listed, range_lent}
 use Rattle.walk.specs.declared.Counted.{Counted}
 use Rattle.walk.specs.Counted.{with_list}
 use Rattle.walk.proofs.laws.Written.{length-numbers}

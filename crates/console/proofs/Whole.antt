@@ -13,7 +13,7 @@ use Rattle.lines.proofs.Streams.{streams}
 use Rattle.console.specs.Runs.{Passes, used-up, filled, Serves, ends, passes}
 
 -- lines and then more lines
-writes-append : (b : List ℕ) (xs ys : List Line) → writes 4 b (xs ++ ys) ≡ writes 4 b xs ++ writes 4 (after 4 b xs) ys
+pub writes-append : (b : List ℕ) (xs ys : List Line) → writes 4 b (xs ++ ys) ≡ writes 4 b xs ++ writes 4 (after 4 b xs) ys
 unfolding writes after
 writes-append b [] ys = refl
 writes-append b (x ∷ xs) ys =

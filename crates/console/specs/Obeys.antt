@@ -76,6 +76,10 @@ pub record Passed (h : Held) (b piece bytes : List ℕ) (r : Kept) : Type 0 wher
   pub pages : r.pages ≤ 256
   pub sure : Sure bytes r.pages
 
+-- after a part of a piece, where no more was obeyed: what its first lines made of the store, and what the others are to do
+abbrev pub CutOff : Held → List ℕ → List ℕ → List ℕ → Type 0
+CutOff h b piece bytes = (out : List ℕ) × (r : Filled) × PieceUpto h b piece bytes out r
+
 -- "its newline (which the last may lack)"
 pub record LastWritten (h : Held) (b out : List ℕ) (len : ℕ) : Type 0 where
   pub written : writes 4 b (heard_lines (last_of (reading h))) ≡ take len out

@@ -1,5 +1,5 @@
--- What the program hands to standard output, buffer after buffer, as serving.rt goes. No contract can say what is written or read
--- (io), so that a run is said here, over the contracts of `fill` and `end`.
+-- What the program hands to its output, buffer after buffer, as serving.rt goes: a run over the contracts of `fill` and `end`, with no
+-- word of a reader or a writer. No contract can say what standard input gives and standard output takes.
 -- Assumes nothing.
 use Rattle.std.specs.Prelude.{ℕ, List, [], ◌∷◌, ◌++◌, take, drop}
 use Rattle.lines.specs.declared.Held.{Held}

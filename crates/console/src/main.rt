@@ -1,6 +1,9 @@
 // The console: reads commands from standard input, a line each, and writes its answers to standard output. Document 01, "The
 // console program". What a line does is lines/specs/Session; where the program keeps it is specs/Obeys; that the bytes handed to
-// standard output, one buffer after the other, are what is to be written for the input is `runs` (proofs/Whole).
+// standard output, one buffer after the other, are what is to be written for the input is `runs` (proofs/Whole), and the contract of
+// `serve`, of a reader and a writer whose bytes are known.
+#![tactic(auto)]
+
 mod filling;
 mod obeying;
 mod reading;
@@ -10,6 +13,7 @@ mod storing;
 mod updating;
 
 use lines::{Answer, Held};
+use std::process::ExitCode;
 
 // What a command brought: the store's pages then, the first answer, and how many settings in the list follow it.
 #[derive(Clone, Copy)]
@@ -36,19 +40,34 @@ struct Filled {
     len: usize,
 }
 
-// Between pieces: the line that is being read, the store's pages, and whether all that was to be written went out.
+// Between pieces: the line that is being read, and the store's pages.
 #[derive(Clone, Copy)]
 struct Kept {
     held: Held,
     pages: usize,
-    went: bool,
 }
 
-// "in a store of up to 256 pages and with a list of 10,040 numbers"; a piece of the input, and a buffer for answers.
-fn main() {
+// "in a store of up to 256 pages and with a list of 10,040 numbers"; a piece of the input, and a buffer for answers. Where a read or a
+// write failed, standard error has the reason, if it takes it.
+fn main(rt: HostRuntime) -> ExitCode {
     let mut bytes = [0u8; 65536];
     let mut list = [0u32; 10040];
     let mut piece = [0u8; 65536];
     let mut out = [0u8; 262144];
-    serving::serve(&mut bytes, &mut list, &mut piece, &mut out);
+    let mut input = rt.stdin();
+    let mut output = rt.stdout();
+    match serving::serve(
+        &mut input,
+        &mut output,
+        &mut bytes,
+        &mut list,
+        &mut piece,
+        &mut out,
+    ) {
+        Ok(()) => ExitCode::SUCCESS,
+        Err(e) => {
+            let _ = eprintln!(rt; "console: {e}");
+            ExitCode::FAILURE
+        }
+    }
 }

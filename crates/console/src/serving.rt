@@ -1,109 +1,105 @@
-// Standard input to standard output, in constant memory.
-ghost use Rattle.std.specs.Prelude.{◌≡◌, ◌+◌, ◌^◌, ◌<◌, ◌≤◌, length};
-ghost use Rattle.console.specs.Obeys.{store_in, Sure, Passed};
+// An input to an output, in constant memory. The reader and the writer are any, so that a contract can name what is read and what is
+// written: of standard input and output it claims nothing (a file gives and takes what it will), of a reader and a writer over memory all.
+ghost use Rattle.std.specs.Prelude.{◌≡◌, ◌+◌, ◌^◌, ◌<◌, ◌≤◌, length, OnOk, IfSome, MatchResult};
+ghost use Rattle.std.specs.Io.KnownBytes.{Appends};
+ghost use Rattle.lines.specs.Reading.{reading, told, last_of, heard_lines};
+ghost use Rattle.lines.specs.Session.{writes, written};
+ghost use Rattle.console.specs.Obeys.{store_in, Sure, Passed, CutOff};
 
 use crate::Kept;
 use crate::filling::{end, fill};
-use libc::{STDIN_FILENO, STDOUT_FILENO};
 use lines::Held;
+use std::io;
+use std::io::{Read, Write};
 
 // The program ends after 2^40 reads, since a loop has to: 34 years of a thousand a second.
 const READS: u64 = 1099511627776;
 
-// Writes a buffer out, and tells whether it went; behind one that did not go nothing is written any more.
-fn put(went: bool, out: &[u8]) -> bool {
-    if went {
-        return io::write_all(STDOUT_FILENO, out);
-    }
-    false
-}
-
-// The reads so far, with one more; all of them where a write failed, so that nothing more is read.
-fn further(reads: u64, went: bool) -> u64
+// The reads so far, with one more.
+fn further(reads: u64) -> u64
     requires { reads < 1099511627776 }
-    ensures { (reads < result) × (result ≤ 1099511627776) }
+    ensures { (reads < result) × (result ≤ 1099511627776) × (result ≡ reads + 1) }
 {
-    if went {
-        return reads + 1;
-    }
-    READS
+    reads + 1
 }
 
-// A piece of the input, to its end: the buffer is written out each time it is full.
-fn pass(
+// A piece of the input, to its end: the buffer is written out each time it is full. Behind a write that failed no line is obeyed any
+// more.
+fn pass<W: Write>(
+    output: &mut W,
     held: Held,
     pages: usize,
     bytes: &mut [u8],
     list: &mut [u32],
     piece: &[u8],
     out: &mut [u8],
-) -> Kept
+) -> io::Result<Kept>
     requires pages_bound { (pages ≤ 256) × (length bytes.old ≡ 65536) × (length list.old ≡ 10040) × Sure bytes.old pages }
     requires len_bound { (held.len ≤ 81) × (held.before + length piece.now + 1 < 2 ^ 64) }
     requires in_bounds { 110462 ≤ length out.old }
-    ensures { Passed held (store_in bytes.old pages) piece.now bytes.new result }
+    ensures kept { MatchResult result (Passed held (store_in bytes.old pages) piece.now bytes.new)
+        (λ _. CutOff held (store_in bytes.old pages) piece.now bytes.new) }
+    ensures written { OnOk result (Appends (W.contents output.old) (W.contents output.new)
+        (writes 4 (store_in bytes.old pages) (told (reading held) piece.now))) }
 {
     let mut h = held;
     let mut p = pages;
     let mut at = 0;
-    let mut went = true;
     while at < piece.len() {
         let f = fill(h, p, bytes, list, &piece[at..], out);
         let n = f.len;
-        went = put(went, &out[..n]);
+        output.write_all(&out[..n])?;
         h = f.held;
         p = f.pages;
         at += f.used;
     }
-    Kept {
-        held: h,
-        pages: p,
-        went: went,
-    }
+    Ok(Kept { held: h, pages: p })
 }
 
-// "console", for standard error, where errno's text follows.
-fn fail() {
-    os::fail(&[b'c', b'o', b'n', b's', b'o', b'l', b'e']);
-}
-
-// What stands behind the last newline, where the input came to its end and all was written; where a read or a write failed, half a
-// line is not obeyed, and standard error has the reason.
-fn close(well: bool, held: Held, pages: usize, bytes: &mut [u8], list: &mut [u32], out: &mut [u8])
+// What stands behind the last newline, where the input came to its end.
+fn close<W: Write>(
+    output: &mut W,
+    held: Held,
+    pages: usize,
+    bytes: &mut [u8],
+    list: &mut [u32],
+    out: &mut [u8],
+) -> io::Result<()>
     requires pages_bound { (pages ≤ 256) × (length bytes.old ≡ 65536) × (length list.old ≡ 10040) × Sure bytes.old pages }
     requires len_bound { (held.len ≤ 81) × (held.before + 1 < 2 ^ 64) }
     requires in_bounds { 110462 ≤ length out.old }
+    ensures { OnOk result (Appends (W.contents output.old) (W.contents output.new)
+        (writes 4 (store_in bytes.old pages) (heard_lines (last_of (reading held))))) }
 {
-    if !well {
-        fail();
-        return;
-    }
     let e = end(held, pages, bytes, list, out);
-    if !io::write_all(STDOUT_FILENO, &out[..e]) {
-        fail();
-    }
+    output.write_all(&out[..e])
 }
 
-// Piece after piece, until a read gives nothing or a write fails.
-pub(crate) fn serve(bytes: &mut [u8], list: &mut [u32], piece: &mut [u8], out: &mut [u8])
+// Piece after piece, until a read gives nothing. Where a read or a write fails, half a line is not obeyed.
+pub(crate) fn serve<R: Read, W: Write>(
+    input: &mut R,
+    output: &mut W,
+    bytes: &mut [u8],
+    list: &mut [u32],
+    piece: &mut [u8],
+    out: &mut [u8],
+) -> io::Result<()>
     requires { (length bytes.old ≡ 65536) × (length list.old ≡ 10040) × (length piece.old ≡ 65536) × (length out.old ≡ 262144) }
+    ensures { OnOk result (IfSome (R.remaining input.old) (λ xs. length xs < 1099511627776
+        → Appends (W.contents output.old) (W.contents output.new) (written xs))) }
 {
     let mut h = lines::start();
     let mut p = 0;
     let mut reads: u64 = 0;
-    let mut well = true;
     while reads < READS {
-        let got = libc::read(STDIN_FILENO, piece);
-        let n = io::count(got, piece);
+        let n = input.read(piece)?;
         if n == 0 {
-            well = got == 0;
             break;
         }
-        let k = pass(h, p, bytes, list, &piece[..n], out);
+        let k = pass(output, h, p, bytes, list, &piece[..n], out)?;
         h = k.held;
         p = k.pages;
-        well = k.went;
-        reads = further(reads, k.went);
+        reads = further(reads);
     }
-    close(well, h, p, bytes, list, out);
+    close(output, h, p, bytes, list, out)
 }

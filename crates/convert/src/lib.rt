@@ -2,6 +2,8 @@
 // fresh edition 2 store, which counts as making it fresh, and replays into it each version's differences as 2026-07 does, bench keys let
 // through, so that every committed version reads the same." The source is only read, so what differs is asked of its cursors alone, and
 // nothing is judged between the steps: each leaves a sound store.
+#![tactic(auto)]
+
 mod call;
 mod skip;
 

@@ -1,5 +1,7 @@
 // A cursor over the settings of a version on a sound store: the first one at or above a key. It goes down as a lookup does and takes
 // along the key at which the next leaf begins, so that it finds its way on without a list of pages.
+#![tactic(auto)]
+
 ghost use Rattle.std.specs.Prelude.{◌≡◌, ◌-◌, ◌<◌};
 ghost use Rattle.model.specs.Page.{pairs_at};
 ghost use Rattle.model.specs.Store.{page};

@@ -1,5 +1,7 @@
 // What differs between two versions of a sound store, in key order. Both are gone through a stretch of keys at a time that lies in one leaf
 // of each: the two leaves are merged, unless they are one page in which nothing starts or ends between the versions.
+#![tactic(auto)]
+
 mod leaves;
 mod telling;
 

@@ -1,4 +1,6 @@
 // What a change, an end or an abandon does to one page, in place.
+#![tactic(auto)]
+
 use model::{Entry, Limits, Pair};
 use page::Head;
 

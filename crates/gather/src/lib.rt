@@ -1,4 +1,6 @@
 // Lists of pairs by value: what is gathered from pages.
+#![tactic(auto)]
+
 ghost use Rattle.std.specs.Prelude.{◌≡◌, [], ◌∷◌, ◌++◌, ◌+◌, ◌-◌, ◌≤◌, ◌<◌, length, take, drop};
 ghost use Rattle.model.specs.Basic.{has};
 ghost use Rattle.model.specs.Entry.{enter_pair};

@@ -1,5 +1,7 @@
 // What bench/ measures of the byte layer, for a Rust program to call: any numbers and any bytes; where they do not fit, nothing is
 // done and the answer is 0. Each call does enough to be timed.
+#![tactic(auto)]
+
 ghost use Rattle.std.specs.Prelude.{◌≡◌, length};
 ghost use Rattle.model.specs.Basic.{pick};
 ghost use Rattle.gauge.specs.Gauge.{fits, field_sum, entry_sum, fill_fits, filled_page};

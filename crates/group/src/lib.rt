@@ -1,5 +1,7 @@
 // One level of an update: the place of its page, the pages rebuilt together, and what the parent then has to change.
 // Nothing is written here: the plan and the application both read through these functions.
+#![tactic(auto)]
+
 ghost use Rattle.std.specs.Prelude.{◌≡◌, ◌*◌, ◌<◌, ◌&&◌, leb, ltb, eqb, length};
 ghost use Rattle.model.specs.Basic.{pick};
 ghost use Rattle.model.specs.Limits.{Edition};

@@ -1,5 +1,8 @@
-// The calls for programs in other languages: numbers and byte slices, any of them. include/rcst.h says the same to a C programmer.
-mod naming;
+// The calls for programs in other languages: numbers and byte slices, any of them. include/rcst.h says the same to a C programmer. A library
+// exports no symbols, whatever its attributes say: the crate host_c exports these.
+#![tactic(auto)]
+
+pub mod naming;
 pub mod plainly;
 
 ghost use Rattle.std.specs.Prelude.{◌≡◌};

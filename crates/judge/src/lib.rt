@@ -2,6 +2,8 @@
 //
 // The rules are asked from 1 on, each "on its own, once all lower ones hold", to tell the lowest broken one; a store that `quick` surely
 // finds sound is asked for no more. What it costs is told in docs/CHECK-COST.md.
+#![tactic(auto)]
+
 ghost use Rattle.std.specs.Prelude.{◌≡◌};
 ghost use Rattle.model.specs.Limits.{Edition};
 ghost use Rattle.model.specs.Basic.{pick};

@@ -1,5 +1,7 @@
 // The kinds of settings: which values a setting may take, and the table in which a caller lends the kinds. A value is 32 bits: an
 // unsigned number, 0 or 1, or the bits of a float.
+#![tactic(auto)]
+
 ghost use Rattle.std.specs.Prelude.{◌≡◌};
 ghost use Rattle.std.specs.Float.Ieee.{of_bits, nan_bits};
 ghost use Rattle.std.specs.Float.{binary32};

@@ -1,5 +1,7 @@
 // The life of a key on a sound store: every stretch of versions in which a lookup finds one value. It goes from change to change, and not
 // version by version.
+#![tactic(auto)]
+
 mod holding;
 
 ghost use Rattle.std.specs.Prelude.{◌≡◌, true, [], ◌∷◌, ◌≤◌, ◌<◌, ltb, length};

@@ -1,6 +1,5 @@
 -- Laws of what is kept of a line. Assumes nothing.
-use Rattle.std.proofs.Common.{◌≡◌, ℕ, zero, suc, ◌+◌, ◌-◌, ◌<◌, ◌≤◌, min, true, false, List, [], ◌∷◌, ◌++◌, map, length, get_or, take, set, sym, refl, ap, ◌∙◌, append_assoc, add-suc, add-one, arith, take_all, take-suc, take-suc-set, le-ltb, lt-ltb}
-use lib.ListN.{length-map}
+use Rattle.std.proofs.Common.{◌≡◌, ℕ, zero, suc, ◌+◌, ◌-◌, ◌<◌, ◌≤◌, min, true, false, List, [], ◌∷◌, ◌++◌, length, get_or, take, set, sym, refl, ap, ◌∙◌, append_assoc, add-suc, add-one, arith, take_all, take-suc, take-suc-set, le-ltb, lt-ltb}
 use lib.Seq.{take-append-add}
 use native.Mathlib.Decide.{dec_le}
 use native.Mathlib.Nat.{min-eq_left, min-eq_right}
@@ -8,10 +7,6 @@ use Rattle.lines.specs.Words.{until}
 use Rattle.lines.specs.declared.Line.{Line}
 use Rattle.lines.specs.declared.Heard.TheVariants.{Whole}
 use Rattle.lines.specs.Reading.{Reading, kept, step_by, step_of, last_by}
-
--- the length of an array in a struct, as the logic says it
-pub plain : {n : ℕ} (l : List ℕ) → length (map (λ (v : ℕ). v) l) ≡ n → length l ≡ n
-plain l h = sym (length-map l (λ (v : ℕ). v)) ∙ h
 
 take-least : (m : ℕ) (s : List ℕ) → take (min (length s) m) s ≡ take m s
 take-least m s = by (dec_le (length s) m) where

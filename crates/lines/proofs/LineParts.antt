@@ -4,7 +4,6 @@ use Rattle.model.specs.Basic.{all, eq_list}
 use Rattle.model.proofs.lists.Lists.{both_true}
 use Rattle.lines.specs.declared.Number.TheVariants.{Is}
 use Rattle.lines.specs.declared.Command.{Command}
-use Rattle.lines.specs.declared.once.Digits.{Digits}
 use Rattle.lines.specs.declared.once.Numeral.{Numeral}
 use Rattle.lines.specs.declared.once.Two.{Two}
 use Rattle.lines.specs.declared.once.Known.{Known}

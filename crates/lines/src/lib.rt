@@ -2,6 +2,8 @@
 // from `start` on it hands each piece of its input to `hear` until the piece is used up, and at the end asks for the `last` line;
 // `say` puts each answer into its buffer. The definitions are specs/Console (lines), Reading (pieces) and Answers; that pieces cut
 // anywhere give the input's lines is `streams` (proofs/Streams).
+#![tactic(auto)]
+
 mod gathering;
 mod once;
 mod parsing;

@@ -1,5 +1,7 @@
 // Rules 1 to 3, 7 and 8: what can be told of a store page by page, one header, one slot, one entry and the page below it at a time.
 // Rules 4 to 6, which want a walk at each version, are in `judge`.
+#![tactic(auto)]
+
 mod eighth;
 mod entry;
 mod first;

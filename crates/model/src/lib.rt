@@ -1,5 +1,7 @@
 // The values that the store is made of, as structs by value. The definitions in specs/ use these very structs as their
 // records, so that code and definitions speak of the same things.
+#![tactic(auto)]
+
 ghost use Rattle.std.specs.Prelude.{◌≡◌, ◌^◌, ◌<◌};
 ghost use Rattle.model.specs.Limits.{edition_of, limits};
 ghost use Rattle.model.specs.Store.{last_of};

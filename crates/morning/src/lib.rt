@@ -1,4 +1,6 @@
 // Many lookups on a store that is judged once, for bench/: what a lookup costs besides the judging.
+#![tactic(auto)]
+
 ghost use Rattle.std.specs.Prelude.{◌<◌};
 ghost use Rattle.walk.specs.Sure.{Walkable};
 

@@ -1,5 +1,7 @@
 // Named settings: a layer above the store that knows each key's kind by a table that the caller lends (kinds). It refuses an unknown key
 // with 17 and a value that its kind does not admit with 16, before the store sees them, and is else the store's own call.
+#![tactic(auto)]
+
 mod ranging;
 
 ghost use Rattle.std.specs.Prelude.{◌≡◌};

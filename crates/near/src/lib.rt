@@ -1,4 +1,6 @@
 // Lookups that judge only what they read (request 2026-04): the header and the slots, and then each page of their own walk.
+#![tactic(auto)]
+
 mod bounded;
 mod down;
 pub mod guard;

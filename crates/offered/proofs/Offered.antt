@@ -180,58 +180,58 @@ plain-list ns ms x y z = λ i. plain_gave (x i) (y i ∷ []) ns ms (z i)
 
 pub all-offered : {M : Type 1} → AllOffered M
 all-offered = record {
-  fresh = by_two rcst-fresh.ended rcst-fresh-code.routine Fresh _ _ rcst-fresh-met.met
+  fresh = by_two rcst-fresh.ended rcst-fresh-code.code rcst-fresh-code.name Fresh _ _ rcst-fresh-met.met
       (λ κs a r e x y ns. promised _ _ ns _ (moved ns x y));
-  fresh-second = by_two rcst-fresh-second.ended rcst-fresh-second-code.routine FreshSecond _ _ rcst-fresh-second-met.met
+  fresh-second = by_two rcst-fresh-second.ended rcst-fresh-second-code.code rcst-fresh-second-code.name FreshSecond _ _ rcst-fresh-second-met.met
       (λ κs a r e x y ns. promised _ _ ns _ (moved ns x y));
-  check = by_two rcst-check.ended rcst-check-code.routine Check _ _ rcst-check-met.met
+  check = by_two rcst-check.ended rcst-check-code.code rcst-check-code.name Check _ _ rcst-check-met.met
       (λ κs a r e x y ns. promised _ _ ns _ (one_told _ ns x y));
-  opens = by_one rcst-open.ended rcst-open-code.routine Open _ rcst-open-met.met (λ κs a r e x ns. promised _ _ ns _ (ap (of_outcome ns) x));
-  insert = by_one rcst-insert.ended rcst-insert-code.routine Insert _ rcst-insert-met.met
+  opens = by_one rcst-open.ended rcst-open-code.code rcst-open-code.name Open _ rcst-open-met.met (λ κs a r e x ns. promised _ _ ns _ (ap (of_outcome ns) x));
+  insert = by_one rcst-insert.ended rcst-insert-code.code rcst-insert-code.name Insert _ rcst-insert-met.met
       (λ κs a r e x ns. promised _ _ ns _ (ap (of_outcome ns) x));
-  delete = by_one rcst-delete.ended rcst-delete-code.routine Delete _ rcst-delete-met.met
+  delete = by_one rcst-delete.ended rcst-delete-code.code rcst-delete-code.name Delete _ rcst-delete-met.met
       (λ κs a r e x ns. promised _ _ ns _ (ap (of_outcome ns) x));
-  commit = by_one rcst-commit.ended rcst-commit-code.routine Commit _ rcst-commit-met.met
+  commit = by_one rcst-commit.ended rcst-commit-code.code rcst-commit-code.name Commit _ rcst-commit-met.met
       (λ κs a r e x ns. promised _ _ ns _ (ap (of_outcome ns) x));
-  abandon = by_one rcst-abandon.ended rcst-abandon-code.routine Abandon _ rcst-abandon-met.met
+  abandon = by_one rcst-abandon.ended rcst-abandon-code.code rcst-abandon-code.name Abandon _ rcst-abandon-met.met
       (λ κs a r e x ns. promised _ _ ns _ (ap (of_outcome ns) x));
-  return = by_one rcst-return.ended rcst-return-code.routine Return _ rcst-return-met.met
+  return = by_one rcst-return.ended rcst-return-code.code rcst-return-code.name Return _ rcst-return-met.met
       (λ κs a r e x ns. promised _ _ ns _ (ap (of_outcome ns) x));
-  prune = by_one rcst-prune.ended rcst-prune-code.routine Prune _ rcst-prune-met.met
+  prune = by_one rcst-prune.ended rcst-prune-code.code rcst-prune-code.name Prune _ rcst-prune-met.met
       (λ κs a r e x ns. promised _ _ ns _ (ap (of_outcome ns) x));
-  lookup = by_three rcst-lookup.ended rcst-lookup-code.routine Lookup _ _ _ rcst-lookup-met.met
+  lookup = by_three rcst-lookup.ended rcst-lookup-code.code rcst-lookup-code.name Lookup _ _ _ rcst-lookup-met.met
       (λ κs a r e x y z ns. promised _ _ ns _ (two-told _ ns x y z));
-  range = by_three rcst-range.ended rcst-range-code.routine Range _ _ _ rcst-range-met.met
+  range = by_three rcst-range.ended rcst-range-code.code rcst-range-code.name Range _ _ _ rcst-range-met.met
       (λ κs a r e x y z. promised _ _ _ _ (list-told _ x y z));
-  visits = by_three rcst-visits.ended rcst-visits-code.routine Visits _ _ _ rcst-visits-met.met
+  visits = by_three rcst-visits.ended rcst-visits-code.code rcst-visits-code.name Visits _ _ _ rcst-visits-met.met
       (λ κs a r e x y z. promised _ _ _ _ (list-told _ x y z));
-  difference = by_three rcst-difference.ended rcst-difference-code.routine Difference _ _ _ rcst-difference-met.met
+  difference = by_three rcst-difference.ended rcst-difference-code.code rcst-difference-code.name Difference _ _ _ rcst-difference-met.met
       (λ κs a r e x y z. promised _ _ _ _ (list-told _ x y z));
-  convert = by_one rcst-convert.ended rcst-convert-code.routine Convert _ rcst-convert-met.met (λ κs a r e x. conversion _ _ _ _ x);
-  state = by_two rcst-state.ended rcst-state-code.routine State _ _ rcst-state-met.met
+  convert = by_one rcst-convert.ended rcst-convert-code.code rcst-convert-code.name Convert _ rcst-convert-met.met (λ κs a r e x. conversion _ _ _ _ x);
+  state = by_two rcst-state.ended rcst-state-code.code rcst-state-code.name State _ _ rcst-state-met.met
       (λ κs a r e x y ns. promised _ _ ns _ (all_told _ ns x y));
-  life = by_three rcst-life.ended rcst-life-code.routine Life _ _ _ rcst-life-met.met
+  life = by_three rcst-life.ended rcst-life-code.code rcst-life-code.name Life _ _ _ rcst-life-met.met
       (λ κs a r e x y z. promised _ _ _ _ (list-told _ x y z));
-  plain-open = by_three rcst-plain-open.ended rcst-plain-open-code.routine PlainOpen _ _ _ rcst-plain-open-met.met
+  plain-open = by_three rcst-plain-open.ended rcst-plain-open-code.code rcst-plain-open-code.name PlainOpen _ _ _ rcst-plain-open-met.met
       (λ κs a r e x y z. plain-opened a.0.now r e.0.now x y z);
-  plain-insert = by-four rcst-plain-insert.ended rcst-plain-insert-code.routine PlainInsert _ _ _ _ rcst-plain-insert-met.met
+  plain-insert = by-four rcst-plain-insert.ended rcst-plain-insert-code.code rcst-plain-insert-code.name PlainInsert _ _ _ _ rcst-plain-insert-met.met
       (λ κs a r e x y z w us. plain-promised _ _ _ _ us _ _ _ (ap (of_given us) x) refl y z w);
-  plain-delete = by-four rcst-plain-delete.ended rcst-plain-delete-code.routine PlainDelete _ _ _ _ rcst-plain-delete-met.met
+  plain-delete = by-four rcst-plain-delete.ended rcst-plain-delete-code.code rcst-plain-delete-code.name PlainDelete _ _ _ _ rcst-plain-delete-met.met
       (λ κs a r e x y z w us. plain-promised _ _ _ _ us _ _ _ (ap (of_given us) x) refl y z w);
-  plain-abandon = by-four rcst-plain-abandon.ended rcst-plain-abandon-code.routine PlainAbandon _ _ _ _ rcst-plain-abandon-met.met
+  plain-abandon = by-four rcst-plain-abandon.ended rcst-plain-abandon-code.code rcst-plain-abandon-code.name PlainAbandon _ _ _ _ rcst-plain-abandon-met.met
       (λ κs a r e x y z w us. plain-promised _ _ _ _ us _ _ _ (ap (of_given us) x) refl y z w);
-  plain-return = by-four rcst-plain-return.ended rcst-plain-return-code.routine PlainReturn _ _ _ _ rcst-plain-return-met.met
+  plain-return = by-four rcst-plain-return.ended rcst-plain-return-code.code rcst-plain-return-code.name PlainReturn _ _ _ _ rcst-plain-return-met.met
       (λ κs a r e x y z w us. plain-promised _ _ _ _ us _ _ _ (ap (of_given us) x) refl y z w);
-  plain-prune = by-four rcst-plain-prune.ended rcst-plain-prune-code.routine PlainPrune _ _ _ _ rcst-plain-prune-met.met
+  plain-prune = by-four rcst-plain-prune.ended rcst-plain-prune-code.code rcst-plain-prune-code.name PlainPrune _ _ _ _ rcst-plain-prune-met.met
       (λ κs a r e x y z w us. plain-promised _ _ _ _ us _ _ _ (ap (of_given us) x) refl y z w);
-  plain-commit = by_three rcst-plain-commit.ended rcst-plain-commit-code.routine PlainCommit _ _ _ rcst-plain-commit-met.met
+  plain-commit = by_three rcst-plain-commit.ended rcst-plain-commit-code.code rcst-plain-commit-code.name PlainCommit _ _ _ rcst-plain-commit-met.met
       (λ κs a r e x y z us. plain-promised _ _ _ _ us _ _ _ (ap (of_given us) x) refl y (λ q. refl) z);
-  plain-lookup = by_three rcst-plain-lookup.ended rcst-plain-lookup-code.routine PlainLookup _ _ _ rcst-plain-lookup-met.met
+  plain-lookup = by_three rcst-plain-lookup.ended rcst-plain-lookup-code.code rcst-plain-lookup-code.name PlainLookup _ _ _ rcst-plain-lookup-met.met
       (λ κs a r e x y z us. plain-read _ _ _ _ us _ (plain-two a.0.now a.1.0.now us x y z) refl);
-  plain-range = by_three rcst-plain-range.ended rcst-plain-range-code.routine PlainRange _ _ _ rcst-plain-range-met.met
+  plain-range = by_three rcst-plain-range.ended rcst-plain-range-code.code rcst-plain-range-code.name PlainRange _ _ _ rcst-plain-range-met.met
       (λ κs a r e x y z. plain-read _ _ _ _ _ _ (plain-list a.0.now a.1.0.now x y z) refl);
-  plain-difference = by_three rcst-plain-difference.ended rcst-plain-difference-code.routine PlainDifference _ _ _
+  plain-difference = by_three rcst-plain-difference.ended rcst-plain-difference-code.code rcst-plain-difference-code.name PlainDifference _ _ _
       rcst-plain-difference-met.met (λ κs a r e x y z. plain-read _ _ _ _ _ _ (plain-list a.0.now a.1.0.now x y z) refl);
-  plain-life = by_three rcst-plain-life.ended rcst-plain-life-code.routine PlainLife _ _ _ rcst-plain-life-met.met
+  plain-life = by_three rcst-plain-life.ended rcst-plain-life-code.code rcst-plain-life-code.name PlainLife _ _ _ rcst-plain-life-met.met
       (λ κs a r e x y z. plain-read _ _ _ _ _ _ (plain-list a.0.now a.1.0.now x y z) refl);
 }

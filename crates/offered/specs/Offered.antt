@@ -185,31 +185,31 @@ PlainLife κs a r e =
 
 -- what all of them do
 pub record AllOffered (M : Type 1) : Type 2 where
-  pub fresh : Does rcst-fresh.ended rcst-fresh-code.routine Fresh M
-  pub fresh-second : Does rcst-fresh-second.ended rcst-fresh-second-code.routine FreshSecond M
-  pub check : Does rcst-check.ended rcst-check-code.routine Check M
-  pub opens : Does rcst-open.ended rcst-open-code.routine Open M
-  pub insert : Does rcst-insert.ended rcst-insert-code.routine Insert M
-  pub delete : Does rcst-delete.ended rcst-delete-code.routine Delete M
-  pub commit : Does rcst-commit.ended rcst-commit-code.routine Commit M
-  pub abandon : Does rcst-abandon.ended rcst-abandon-code.routine Abandon M
-  pub return : Does rcst-return.ended rcst-return-code.routine Return M
-  pub prune : Does rcst-prune.ended rcst-prune-code.routine Prune M
-  pub lookup : Does rcst-lookup.ended rcst-lookup-code.routine Lookup M
-  pub range : Does rcst-range.ended rcst-range-code.routine Range M
-  pub visits : Does rcst-visits.ended rcst-visits-code.routine Visits M
-  pub difference : Does rcst-difference.ended rcst-difference-code.routine Difference M
-  pub life : Does rcst-life.ended rcst-life-code.routine Life M
-  pub state : Does rcst-state.ended rcst-state-code.routine State M
-  pub convert : Does rcst-convert.ended rcst-convert-code.routine Convert M
-  pub plain-open : Does rcst-plain-open.ended rcst-plain-open-code.routine PlainOpen M
-  pub plain-insert : Does rcst-plain-insert.ended rcst-plain-insert-code.routine PlainInsert M
-  pub plain-delete : Does rcst-plain-delete.ended rcst-plain-delete-code.routine PlainDelete M
-  pub plain-commit : Does rcst-plain-commit.ended rcst-plain-commit-code.routine PlainCommit M
-  pub plain-abandon : Does rcst-plain-abandon.ended rcst-plain-abandon-code.routine PlainAbandon M
-  pub plain-return : Does rcst-plain-return.ended rcst-plain-return-code.routine PlainReturn M
-  pub plain-prune : Does rcst-plain-prune.ended rcst-plain-prune-code.routine PlainPrune M
-  pub plain-lookup : Does rcst-plain-lookup.ended rcst-plain-lookup-code.routine PlainLookup M
-  pub plain-range : Does rcst-plain-range.ended rcst-plain-range-code.routine PlainRange M
-  pub plain-difference : Does rcst-plain-difference.ended rcst-plain-difference-code.routine PlainDifference M
-  pub plain-life : Does rcst-plain-life.ended rcst-plain-life-code.routine PlainLife M
+  pub fresh : Does rcst-fresh.ended rcst-fresh-code.code rcst-fresh-code.name Fresh M
+  pub fresh-second : Does rcst-fresh-second.ended rcst-fresh-second-code.code rcst-fresh-second-code.name FreshSecond M
+  pub check : Does rcst-check.ended rcst-check-code.code rcst-check-code.name Check M
+  pub opens : Does rcst-open.ended rcst-open-code.code rcst-open-code.name Open M
+  pub insert : Does rcst-insert.ended rcst-insert-code.code rcst-insert-code.name Insert M
+  pub delete : Does rcst-delete.ended rcst-delete-code.code rcst-delete-code.name Delete M
+  pub commit : Does rcst-commit.ended rcst-commit-code.code rcst-commit-code.name Commit M
+  pub abandon : Does rcst-abandon.ended rcst-abandon-code.code rcst-abandon-code.name Abandon M
+  pub return : Does rcst-return.ended rcst-return-code.code rcst-return-code.name Return M
+  pub prune : Does rcst-prune.ended rcst-prune-code.code rcst-prune-code.name Prune M
+  pub lookup : Does rcst-lookup.ended rcst-lookup-code.code rcst-lookup-code.name Lookup M
+  pub range : Does rcst-range.ended rcst-range-code.code rcst-range-code.name Range M
+  pub visits : Does rcst-visits.ended rcst-visits-code.code rcst-visits-code.name Visits M
+  pub difference : Does rcst-difference.ended rcst-difference-code.code rcst-difference-code.name Difference M
+  pub life : Does rcst-life.ended rcst-life-code.code rcst-life-code.name Life M
+  pub state : Does rcst-state.ended rcst-state-code.code rcst-state-code.name State M
+  pub convert : Does rcst-convert.ended rcst-convert-code.code rcst-convert-code.name Convert M
+  pub plain-open : Does rcst-plain-open.ended rcst-plain-open-code.code rcst-plain-open-code.name PlainOpen M
+  pub plain-insert : Does rcst-plain-insert.ended rcst-plain-insert-code.code rcst-plain-insert-code.name PlainInsert M
+  pub plain-delete : Does rcst-plain-delete.ended rcst-plain-delete-code.code rcst-plain-delete-code.name PlainDelete M
+  pub plain-commit : Does rcst-plain-commit.ended rcst-plain-commit-code.code rcst-plain-commit-code.name PlainCommit M
+  pub plain-abandon : Does rcst-plain-abandon.ended rcst-plain-abandon-code.code rcst-plain-abandon-code.name PlainAbandon M
+  pub plain-return : Does rcst-plain-return.ended rcst-plain-return-code.code rcst-plain-return-code.name PlainReturn M
+  pub plain-prune : Does rcst-plain-prune.ended rcst-plain-prune-code.code rcst-plain-prune-code.name PlainPrune M
+  pub plain-lookup : Does rcst-plain-lookup.ended rcst-plain-lookup-code.code rcst-plain-lookup-code.name PlainLookup M
+  pub plain-range : Does rcst-plain-range.ended rcst-plain-range-code.code rcst-plain-range-code.name PlainRange M
+  pub plain-difference : Does rcst-plain-difference.ended rcst-plain-difference-code.code rcst-plain-difference-code.name PlainDifference M
+  pub plain-life : Does rcst-plain-life.ended rcst-plain-life-code.code rcst-plain-life-code.name PlainLife M

@@ -1,4 +1,6 @@
 // A page in its part of the store: its front, and its entries.
+#![tactic(auto)]
+
 use model::{Entry, Limits};
 
 pub mod words;

@@ -1,4 +1,6 @@
 // Page n of a store: what is read of it, and what is written in it.
+#![tactic(auto)]
+
 ghost use Rattle.std.specs.Prelude.{◌≡◌, leb, length};
 ghost use Rattle.model.specs.Page.{wanted, pairs_at, active};
 ghost use Rattle.model.specs.Store.{page};

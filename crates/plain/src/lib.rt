@@ -1,4 +1,6 @@
 // The plain engine (2026-10): one list of items with spans, lent by the caller, and each call a scan of it. It has no pages and no tree.
+#![tactic(auto)]
+
 mod back;
 mod guard;
 mod items;

@@ -1,5 +1,7 @@
 // The plan of an update: the number that it will come to, known before the first write. It reads the pages as they stand, from the leaf
 // up, and carries the change that the next page has to take and how many pages are free by then.
+#![tactic(auto)]
+
 mod down;
 
 ghost use Rattle.std.specs.Prelude.{◌≡◌, ◌+◌, ◌*◌, ◌^◌, ◌≤◌, ◌<◌, leb};

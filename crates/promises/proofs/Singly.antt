@@ -27,6 +27,7 @@ use Rattle.model.specs.Settings
 use Rattle.model.specs.Settings.{Both, together, lent}
 use Rattle.model.specs.Ended.{to_return, ended}
 use Rattle.model.specs.ByRule.{Sound, Committed}
+use Rattle.model.specs.Entry.{enter_pair}
 use Rattle.model.specs.Remade
 use Rattle.model.specs.Remade.{small}
 use Rattle.model.proofs.lists.Lists.{all_cons, both_true, both-intro}
@@ -107,7 +108,7 @@ in_two go (stopped n u) t e = absurd (never n u t e)
 sets-fit : (us : List Pair) (ds : List Delta) (vs : List Pair) → Remade.Sets small us ds vs
     → all Settings.fits (map (λ (d : Delta). inserts d.key d.new) ds) ≡ true
 sets-fit us [] vs e = refl
-sets-fit us (d ∷ ds) vs (f, z, r) = both-intro _ _ (both_true (ltb d.key key_limit) (ltb d.new 4294967296) f).1 (sets-fit _ ds vs r)
+sets-fit us (d ∷ ds) vs (f, z, r) = both-intro _ _ (both_true (ltb d.key key_limit) (ltb d.new 4294967296) f).1 (sets-fit (enter_pair (Remade.asked d) us) ds vs r)
 
 ends-fit : (ds : List Delta) (cs : List Call) → all Settings.fits cs ≡ true
     → all Settings.fits (map (λ (d : Delta). deletes d.key) ds ++ cs) ≡ true

@@ -1,5 +1,7 @@
 // Prune on a sound store of edition 2 (request 2026-12): pages that ended at or before a version are freed, slots that are not needed from
 // it on are dropped, and the header has it as the oldest.
+#![tactic(auto)]
+
 ghost use Rattle.std.specs.Prelude.{◌≡◌, true, map, ◌+◌, ◌*◌, ◌-◌, ◌^◌, ◌≤◌, ◌<◌, length, get_or, set};
 ghost use Rattle.model.specs.Limits.{Edition};
 ghost use Rattle.model.specs.Layout.{no_slot, page_of, with_page, decode_page, encode_page, decode, encode};

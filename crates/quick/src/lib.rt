@@ -2,6 +2,8 @@
 //
 // The tests are those of spans/specs/Quick, which are rules 4 to 6 where rules 1 to 3 hold (spans/proofs/laws/Quick, `quick-rules`). Which
 // rule is broken is for `judge`: here the number of check is given, and no more.
+#![tactic(auto)]
+
 mod entry;
 mod pages;
 mod part;

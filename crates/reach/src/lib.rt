@@ -1,5 +1,7 @@
 // Rule 6 at one version, by a walk and its marks, for any version from the oldest on: `check` asks it at the last one, judging where the
 // notes met a page that had gone out of reach.
+#![tactic(auto)]
+
 mod change;
 mod live;
 mod marks;

@@ -1,6 +1,8 @@
 // The calls that read, for any bytes lent and the limits of an edition: each is its guard, which judges the store and then goes through the
 // call's refusals in order, and a core that rests on a sound store. Lookup and range on any bytes are near's; a caller that is sure of its
 // store has those of sure.rt.
+#![tactic(auto)]
+
 mod differing;
 mod living;
 mod stating;

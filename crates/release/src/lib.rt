@@ -2,6 +2,8 @@
 // Neither version's settings are walked. Only what starts or ends at the open version in a leaf can tell the two apart, and where
 // nothing does, nothing was changed. One pass over the leaves, and a lookup for each entry that the update touched, to the first
 // that differs.
+#![tactic(auto)]
+
 ghost use Rattle.std.specs.Prelude.{◌≡◌, ◌+◌, ◌*◌, ◌^◌, ◌≤◌, ◌<◌, length};
 ghost use Rattle.model.specs.Basic.{all};
 ghost use Rattle.model.specs.Store.{page};

@@ -1,4 +1,6 @@
 // The root's step of an update, and the directory slot that a new root takes.
+#![tactic(auto)]
+
 mod renew;
 mod slots;
 

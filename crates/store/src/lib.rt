@@ -1,4 +1,6 @@
 // A store in its bytes: the header, the root directory, each page's part, and making a fresh one.
+#![tactic(auto)]
+
 use model::{Header, Limits, Slot};
 
 mod editions;

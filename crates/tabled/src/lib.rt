@@ -1,5 +1,7 @@
 // What a range asks of bytes made to keep it busy, where its own walk's budget is used up: a table with a number for each router of each
 // page, and the settings told and written by it. And what any judging walk of a range asks of one page.
+#![tactic(auto)]
+
 mod table;
 mod write;
 

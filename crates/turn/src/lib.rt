@@ -1,5 +1,7 @@
 // Open, commit and abandon on a sound store: the header is changed as one value and written back. Open is called begin here, as in
 // the definitions, where its own name is a reserved word.
+#![tactic(auto)]
+
 ghost use Rattle.std.specs.Prelude.{◌≡◌, true, false, map, ◌+◌, ◌*◌, ◌-◌, ◌^◌, ◌≤◌, ◌<◌, length};
 ghost use Rattle.model.specs.Limits.{Edition};
 ghost use Rattle.model.specs.Layout.{page_of, with_page, decode_page, encode_page, decode, encode};

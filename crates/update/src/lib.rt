@@ -1,5 +1,7 @@
 // One change at the leaf for a key, at the open version, on a sound store. The number that it comes to is foreseen before the first
 // byte is written, so that a refusal leaves the store untouched.
+#![tactic(auto)]
+
 mod single;
 
 ghost use Rattle.std.specs.Prelude.{◌≡◌, true, ◌<◌, length};

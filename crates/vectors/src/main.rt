@@ -1,40 +1,31 @@
 // Makes a fresh store of six pages, of either edition, writes the bytes that docs/FORMAT.md gives of it, and judges it: as it is, with a
 // stray bit set, and as a store of another edition.
-use libc::STDOUT_FILENO;
+#![tactic(auto)]
 
-fn wide(x: u8) -> u64 {
-    x as u64
-}
+use std::io;
 
 // Bytes in hexadecimal, one space behind each.
-fn say_bytes(s: &[u8]) {
-    let mut i = 0;
-    while i < s.len() {
-        io::print_hex(STDOUT_FILENO, wide(s[i]), 2);
-        io::write_all(STDOUT_FILENO, b" ");
-        i += 1;
+fn say_bytes(rt: &impl Print, s: &[u8]) -> io::Result<()> {
+    for byte in s {
+        print!(rt; "{byte:02x} ")?;
     }
-    io::write_all(STDOUT_FILENO, b"\n");
+    println!(rt; "")
 }
 
-fn say_verdict(s: &[u8]) {
+fn say_verdict(rt: &impl Print, s: &[u8]) -> io::Result<()> {
     let v = judge::check(s);
-    io::write_all(STDOUT_FILENO, b"check gives ");
-    io::print_decimal(STDOUT_FILENO, v.number as u64);
-    io::write_all(STDOUT_FILENO, b", rule ");
-    io::print_decimal(STDOUT_FILENO, v.rule as u64);
-    io::write_all(STDOUT_FILENO, b"\n");
+    println!(rt; "check gives {}, rule {}", v.number, v.rule)
 }
 
 // The bytes from one place up to another, if they are there.
-fn say_part(s: &[u8], from: usize, to: usize) {
+fn say_part(rt: &impl Print, s: &[u8], from: usize, to: usize) -> io::Result<()> {
     if s.len() < to {
-        return;
+        return Ok(());
     }
     if to < from {
-        return;
+        return Ok(());
     }
-    say_bytes(&s[from..to]);
+    say_bytes(rt, &s[from..to])
 }
 
 fn set(s: &mut [u8], at: usize, v: u8) {
@@ -43,35 +34,35 @@ fn set(s: &mut [u8], at: usize, v: u8) {
     }
 }
 
-fn first() {
+fn first(rt: &impl Print) -> io::Result<()> {
     let mut s = [0xEE; 1536];
     store::fresh(&mut s);
-    say_part(&s, 0, 11);
-    say_part(&s, 256, 260);
-    say_part(&s, 1280, 1287);
-    say_verdict(&s);
+    say_part(rt, &s, 0, 11)?;
+    say_part(rt, &s, 256, 260)?;
+    say_part(rt, &s, 1280, 1287)?;
+    say_verdict(rt, &s)?;
     set(&mut s, 12, 1);
-    say_verdict(&s);
+    say_verdict(rt, &s)?;
     set(&mut s, 12, 0);
     set(&mut s, 4, 3);
-    say_verdict(&s);
+    say_verdict(rt, &s)
 }
 
-fn second() {
+fn second(rt: &impl Print) -> io::Result<()> {
     let mut s = [0xEE; 3072];
     store::fresh_second(&mut s);
-    say_part(&s, 0, 11);
-    say_part(&s, 512, 516);
-    say_part(&s, 2560, 2567);
-    say_verdict(&s);
+    say_part(rt, &s, 0, 11)?;
+    say_part(rt, &s, 512, 516)?;
+    say_part(rt, &s, 2560, 2567)?;
+    say_verdict(rt, &s)?;
     set(&mut s, 3071, 1);
-    say_verdict(&s);
+    say_verdict(rt, &s)?;
     set(&mut s, 3071, 0);
     set(&mut s, 4, 1);
-    say_verdict(&s);
+    say_verdict(rt, &s)
 }
 
-fn main() {
-    first();
-    second();
+fn main(rt: HostRuntime) -> io::Result<()> {
+    first(&rt)?;
+    second(&rt)
 }

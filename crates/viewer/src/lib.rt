@@ -1,6 +1,8 @@
 // "The viewer is a reader opened once on a store and one version": a struct that holds the store's slice and the version.
-// The borrow checker covers no function over such a struct, so `view`, `value` and `view_value` are proved by hand. Each is thin:
-// `value` takes the struct apart and leaves the work to `at`, and `view_value`, whose parameters are plain, serves every other caller.
+// Its lookups are thin: `value` takes the struct apart and leaves the work to `at`, and `view_value`, whose parameters are plain, serves
+// every other caller.
+#![tactic(auto)]
+
 ghost use Rattle.std.specs.Prelude.{◌≡◌};
 ghost use Rattle.model.specs.Any.{lookup_any};
 ghost use Rattle.model.specs.Named.{viewed};

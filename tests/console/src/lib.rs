@@ -1,6 +1,6 @@
 //! The built console program, run as its users run it: lines to its standard
-//! input, answers from its standard output. `rt check console` builds it;
-//! `RCST_CONSOLE` names another one.
+//! input, answers from its standard output. `rt run` in crates/console builds
+//! it; `RCST_CONSOLE` names another one.
 
 use std::io::{Read, Write};
 use std::path::PathBuf;
@@ -10,7 +10,11 @@ use std::thread;
 pub fn program() -> PathBuf {
     match std::env::var_os("RCST_CONSOLE") {
         Some(path) => path.into(),
-        None => concat!(env!("CARGO_MANIFEST_DIR"), "/../../target/bin/console").into(),
+        None => concat!(
+            env!("CARGO_MANIFEST_DIR"),
+            "/../../crates/console/out/console"
+        )
+        .into(),
     }
 }
 
@@ -21,7 +25,12 @@ pub fn start() -> Child {
         .stdin(Stdio::piped())
         .stdout(Stdio::piped())
         .spawn()
-        .unwrap_or_else(|error| panic!("{}: {error}; `rt check console` builds it", path.display()))
+        .unwrap_or_else(|error| {
+            panic!(
+                "{}: {error}; `rt run` in crates/console builds it",
+                path.display()
+            )
+        })
 }
 
 /// What the program writes while `give` writes its input.

@@ -17,7 +17,8 @@ use Rattle.model.specs.Calls.{raw_insert}
 use Rattle.model.specs.Needs.{deleting}
 use Rattle.model.specs.Lent.{left}
 use Rattle.model.specs.Return.{goes, comes, end_one, set_one, reached, through}
-use Rattle.model.specs.Remade.{small, Ends as EndsBy, Sets as SetsBy, ended}
+use Rattle.model.specs.Entry.{enter_pair}
+use Rattle.model.specs.Remade.{small, Ends as EndsBy, Sets as SetsBy, ended, asked}
 use Rattle.model.proofs.lists.Lists.{both_true}
 use Rattle.model.proofs.tree.Local.{those-append}
 use Rattle.model.proofs.turning.Returned.{Runs, Steps as StepsOf, delete-is, set_is, end_step, set-step, ends-run, sets-run}
@@ -35,8 +36,8 @@ split : (insert : Bool) (us : List Pair) (cs ds : List Delta) (vs : List Pair) �
     → (m : List Pair) × Steps insert us cs m × Steps insert m ds vs
 split true us [] ds vs e = (us, refl, e)
 split false us [] ds vs e = (us, refl, e)
-split true us (c ∷ cs) ds vs (p, q, r) = let (m, x, y) = split true _ cs ds vs r in (m, (p, q, x), y)
-split false us (c ∷ cs) ds vs (p, q, r) = let (m, x, y) = split false _ cs ds vs r in (m, (p, q, x), y)
+split true us (c ∷ cs) ds vs (p, q, r) = let (m, x, y) = split true (enter_pair (asked c) us) cs ds vs r in (m, (p, q, x), y)
+split false us (c ∷ cs) ds vs (p, q, r) = let (m, x, y) = split false (ended c us) cs ds vs r in (m, (p, q, x), y)
 
 module _ (insert : Bool) (us : List Pair) (cs ds : List Delta) (p : Due insert us (cs ++ ds)) where
   pub parts : (m : List Pair) × Steps insert us (those (wants insert) cs) m × Steps insert m (those (wants insert) ds) p.after

@@ -77,7 +77,7 @@ told-both x y false e = refl
 step_both : (x : Pair) (xs : List Pair) (y : Pair) (ys : List Pair) → x.key ≡ y.key → above x.key xs ≡ true → above y.key ys ≡ true
     → StepBy (x ∷ xs) (y ∷ ys) (record { key = x.key; kind = pick (eqb x.value y.value) 3 2; old = x.value; new = y.value })
 step_both x xs y ys e a b =
-    let g : at_or_above (x.key + 1) (y ∷ ys) ≡ ys = rw e (first-gone y ys b) in
+    let g : at_or_above (x.key + 1) (y ∷ ys) ≡ ys = subst (λ (k : ℕ). at_or_above (k + 1) (y ∷ ys) ≡ ys) (sym e) (first-gone y ys b) in
     both_first x xs y ys e b
     ∙ ap₂ (λ (us vs : List Delta). us ++ vs) (sym (told-both x y (eqb x.value y.value) refl))
     (ap₂ differ (sym (first-gone x xs a)) (sym g))

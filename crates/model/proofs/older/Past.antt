@@ -84,7 +84,7 @@ root-slot r (y ∷ xs) o x (inl e) =
     subst (λ (z : Slot). root_from r (y ∷ xs) z.version ≡ z.root) (sym e)
     (ap (λ (b : Bool). root_from (pick b y.root r) xs y.version) (le-leb y.version y.version (omega arith))
     ∙ root-above y.version y.root xs a)
-root-slot r (y ∷ xs) o x (inr i) = root-slot _ xs (both_true (all (by_slot y) xs) (in_order by_slot xs) o).1 x i
+root-slot r (y ∷ xs) o x (inr i) = root-slot (pick (leb y.version x.version) y.root r) xs (both_true (all (by_slot y) xs) (in_order by_slot xs) o).1 x i
 
 module _ (w : ℕ) where
   abbrev pub older : Slot → Bool
@@ -103,7 +103,7 @@ module _ (w : ℕ) where
 
   root-snoc : (v r n : ℕ) → v < w → (xs : List Slot) → root_from r (xs ++ (record { version = w; root = n } ∷ [])) v ≡ root_from r xs v
   root-snoc v r n h [] = ap (λ (b : Bool). pick b n r) (lt-leb w v h)
-  root-snoc v r n h (x ∷ xs) = root-snoc v _ n h xs
+  root-snoc v r n h (x ∷ xs) = root-snoc v (pick (leb x.version v) x.root r) n h xs
 
   pub root-past : (v n : ℕ) → v < w → (xs : List Slot) → root_at (Climb.put_slot w n xs) v ≡ root_at xs v
   unfolding Climb.put_slot

@@ -5,10 +5,10 @@ use native.Mathlib.Omega.{arith}
 use mathlib.Core.Bool.{Bool, true, false, not}
 use mathlib.Core.Path.{◌≡◌, refl, ap, sym, ◌∙◌, subst}
 use mathlib.Core.List.{List, [], ◌∷◌, ◌++◌, append-nil}
-use lib.Dec.{eqb}
+use lib.Dec.{leb, eqb}
 use lib.ListN.{length}
 use borrow.Author.Tests.{le-leb}
-use Rattle.model.specs.Basic.{all, those}
+use Rattle.model.specs.Basic.{pick, all, those}
 use Rattle.model.specs.declared.Pair.{Pair}
 use Rattle.model.specs.Entry.{alive, within}
 use Rattle.model.specs.Page.{Page, Change, pairs_at, wanted}
@@ -74,7 +74,7 @@ module _ (least w : ℕ) (ps : List Page) where
 -- the root of the open version after a slot is put
 pub root-put : (w n r : ℕ) (xs : List Slot) → root_from r (xs ++ (record { version = w; root = n } ∷ [])) w ≡ n
 root-put w n r [] = rw (le-leb w w (omega arith))
-root-put w n r (x ∷ xs) = root-put w n _ xs
+root-put w n r (x ∷ xs) = root-put w n (pick (leb x.version w) x.root r) xs
 
 pub root-new : (w n : ℕ) (xs : List Slot) → root_at (Climb.put_slot w n xs) w ≡ n
 unfolding Climb.put_slot

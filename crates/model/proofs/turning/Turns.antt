@@ -68,7 +68,7 @@ root-next c r [] h = refl
 root-next c r (x ∷ xs) h =
     let (a, b) = all_cons (λ (y : Slot). leb y.version c) x xs h in
     ap (λ (b : Bool). root_from (pick b x.root r) xs (suc c))
-    (le-leb x.version (suc c) (omega (arith, leb-true x.version c a)) ∙ sym a) ∙ root-next c _ xs b
+    (le-leb x.version (suc c) (omega (arith, leb-true x.version c a)) ∙ sym a) ∙ root-next c (pick (leb x.version c) x.root r) xs b
 
 module _ (least c old : ℕ) (xs : List Slot) (ps : List Page) (d : Sound least (store c false old xs ps)) (room : c < 1048574) where
   abbrev s : Store

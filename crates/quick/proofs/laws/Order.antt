@@ -1,7 +1,7 @@
 -- Entries stand by key: the first key is the least, the last one the greatest. Assumes nothing.
 use Prim.Native.Nat.{ℕ, zero, suc, ◌+◌, ◌*◌, ◌-◌, ◌<◌, ◌≤◌}
 use mathlib.Core.Bool.{Bool, true, ◌||◌, not, or-true}
-use mathlib.Core.Path.{◌≡◌, refl, ap, sym, ◌∙◌}
+use mathlib.Core.Path.{◌≡◌, refl, ap, sym, subst, ◌∙◌}
 use mathlib.Core.List.{List, ◌∷◌}
 use mathlib.Core.Logic.{inl, inr}
 use native.Mathlib.Omega.{arith}
@@ -48,7 +48,9 @@ low_first p n o low a b pos l =
 last-in : (p : List ℕ) (o k : ℕ) → In (read_entry p (o + 96 * k)) (read_entries p o (suc k))
 unfolding read_entries
 last-in p o zero = let e : o + 96 * 0 ≡ o = omega arith in inl (ap (read_entry p) e)
-last-in p o (suc k) = let e : o + 96 * suc k ≡ o + 96 + 96 * k = omega arith in inr (rw e (last-in p (o + 96) k))
+last-in p o (suc k) =
+    let e : o + 96 + 96 * k ≡ o + 96 * suc k = omega arith in
+    inr (subst (λ (x : ℕ). In (read_entry p x) (read_entries p (o + 96) (suc k))) e (last-in p (o + 96) k))
 
 high-all : (h a b : ℕ) (p : List ℕ) (o k : ℕ) → in_order before (read_entries p o (suc k)) ≡ true → (read_entry p (o + 96 * k)).key < h
     → high_over h a b (read_entries p o (suc k)) ≡ true

@@ -122,7 +122,7 @@ slots-more {k} old sums s o (suc n) h =
     let x : Slot = read_slot s o in
     let y : ℕ = upto (read_slots s (o + 32) n) - max old x.version in
     let g = one_more sums x.root y h (omega (arith, upto-most s (o + 32) n)) in
-    fewer (add_slots old (add_to sums x.root y) (read_slots s (o + 32) n)) (slots-more old (add_to sums x.root y) s (o + 32) n g)
+    fewer (add_slots old (add_to sums x.root y) (read_slots s (o + 32) n)) (slots-more {k = k + 1} old (add_to sums x.root y) s (o + 32) n g)
     (omega arith)
 
 pub entries-more : {k : ℕ} (old : ℕ) (sums : List ℕ) (p : List ℕ) (o n : ℕ) → Sums k sums
@@ -133,7 +133,7 @@ entries-more {k} old sums p o (suc n) h =
     let e : Entry = read_entry p o in
     let y : ℕ = e.end - max old e.start in
     let g = one_more sums e.value y h (omega (arith, (read-sized p o).end)) in
-    fewer (add_entries old (add_to sums e.value y) (read_entries p (o + 96) n)) (entries-more old (add_to sums e.value y) p (o + 96) n g)
+    fewer (add_entries old (add_to sums e.value y) (read_entries p (o + 96) n)) (entries-more {k = k + 1} old (add_to sums e.value y) p (o + 96) n g)
     (omega arith)
 
 pub page-more : {k : ℕ} (old : ℕ) (sums : List ℕ) (least : ℕ) (p : List ℕ) → (read_head least p).count ≤ 40 → Sums k sums

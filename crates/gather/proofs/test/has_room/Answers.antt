@@ -1,0 +1,48 @@
+use native.Mathlib.Omega.{arith}
+use Prim.Native.Nat.{◌≤◌, ◌*◌}
+use mathlib.Core.Path.{◌≡◌, ap, sym, ◌∙◌}
+use borrow.Author.Tests.{le-leb}
+use lib.ListN.{length}
+use Rattle.model.specs.Page.{changed}
+use Rattle.model.specs.Layout.{count_of, decode_page}
+use Rattle.page.proofs.laws.Read.{count-of, entries-of, length-entries}
+use Rattle.page.proofs.laws.Editions.{room-is}
+use Rattle.edit.specs.Change.{change_of}
+use Rattle.gather.proofs.laws.Tests.{changed-few}
+use borrow.Author.Rules.{rules}
+use Rattle.gather.proofs.test.has_room.Goals as goal
+use Rattle.gather.proofs.test.has_room.Goals.{After-head_of-h}
+
+-- the entries of the page
+count-is : (c : After-head_of-h) →
+    c.head_of-h.result.count ≡ count_of c.args.l.least c.args.page.now
+count-is c =
+    ap (λ h. h.count) c.head_of-h.ensures ∙ sym (count-of c.args.l.least c.args.page.now)
+
+long-is : (c : After-head_of-h) →
+    length (decode_page c.args.l.least c.args.page.now).entries ≡ c.head_of-h.result.count
+long-is c =
+    let least = c.args.l.least in
+    let p = c.args.page.now in
+    ap length (entries-of least p) ∙ length-entries p 128 _ ∙ sym (ap (λ h. h.count) c.head_of-h.ensures)
+
+pub overflow_add-h : goal.overflow_add-h
+overflow_add-h c = omega (arith, count-is (goal.at.overflow_add-h c).After-head_of-h, c.requires.0.room, c.requires.0.edition.eight, c.requires.1.takes)
+
+pub returns-then-h-c : goal.returns-then-h-c
+returns-then-h-c c =
+    let few : length
+    (changed c.args.w (change_of c.args.c)
+    (decode_page c.args.l.least c.args.page.now)).entries ≤ 5 * c.args.l.least
+    = omega (
+      arith,
+      c.if-h-c.true,
+      long-is (goal.at.returns-then-h-c c).After-head_of-h,
+      changed-few c.args.w c.args.c (decode_page c.args.l.least c.args.page.now)
+          c.requires.1,
+      room-is c.requires.0.edition,
+    ) in
+    sym (le-leb _ _ few)
+
+pub returns : goal.returns
+returns c = rw (c.after.ensures, room-is c.requires.0.edition)

@@ -1,0 +1,44 @@
+use Prim.Native.Nat.{ℕ}
+use mathlib.Core.Path.{refl, ap, sym, ◌∙◌}
+use native.Mathlib.Omega.{arith}
+use borrow.Author.Tests.{not-true, not-false}
+use lib.ListN.{length}
+use Rattle.gauge.proofs.laws.Gauge.{fillable, fitting-all, filled-four}
+use Rattle.page.proofs.laws.Editions.{edition-of}
+use Rattle.model.specs.Limits.{Edition}
+use Rattle.model.specs.declared.Limits.{Limits}
+use borrow.Author.Rules.{rules}
+use Rattle.gauge.proofs.gauge_fill.Goals as goal
+
+pub returns-then-not-fill_fits : goal.returns-then-not-fill_fits
+returns-then-not-fill_fits c =
+    let e = sym c.fill_fits.ensures ∙ not-true _ c.if-not-fill_fits.true-raw in record {
+      number = rw e (refl);
+      bytes = rw e (refl);
+    }
+
+pub fill-requires : goal.fill-requires
+fill-requires c =
+    let a = c.args in
+    let d : Edition c.edition_one.result = edition-of 4 c.edition_one.ensures.one (omega arith) (omega arith) in
+    let l = ap (λ (x : Limits). x.least) c.edition_one.ensures.one in
+    let f = fillable (length a.page.now) a.w a.key a.n
+    (sym c.fill_fits.ensures ∙ not-false _ c.if-not-fill_fits.false-raw) in (
+      d,
+      omega (arith, f.page, l),
+      omega arith,
+      omega (arith, f.version),
+      omega (arith, f.room, d.four),
+      omega (arith, f.room),
+      λ (k : ℕ). fitting-all a.key a.value k 56 (omega (arith, f.low)) (omega arith),
+    )
+
+pub returns : goal.returns
+returns c =
+    let a = c.args in
+    let l = ap (λ (x : Limits). x.least) c.edition_one.ensures.one in
+    let e = sym c.fill_fits.ensures ∙ not-false _ c.if-not-fill_fits.false-raw in record {
+      number = rw e (refl);
+      bytes = rw e (c.fill.ensures ∙ filled-four a.w a.key a.value a.n
+          c.edition_one.result.least l);
+    }

@@ -1,0 +1,13 @@
+use mathlib.Core.Path.{ap}
+use Rattle.model.specs.Lent.{Listed}
+use borrow.Author.Rules.{rules}
+use Rattle.host.proofs.rcst_range.Goals as goal
+
+pub returns : goal.returns
+returns c =
+    let e = c.range-r.ensures in
+    record {
+      number = ap (λ (r : Listed). r.number) e;
+      settings = ap (λ (r : Listed). r.count) e;
+      written = ap (λ (r : Listed). r.list) e;
+    }

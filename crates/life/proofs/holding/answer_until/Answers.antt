@@ -1,0 +1,87 @@
+-- `holding::answer_until` meets its contract: up to q every lookup comes to page n. Assumes nothing.
+use Prim.Native.Nat.{ℕ, suc, ◌-◌}
+use native.Mathlib.Omega.{arith}
+use mathlib.Core.Path.{◌≡◌, subst}
+use borrow.Author.Rules.{rules}
+use Rattle.model.specs.Layout.{decode}
+use Rattle.store.proofs.laws.Sure.{few}
+use Rattle.walk.proofs.laws.Covers.{covers-starts}
+use Rattle.walk.proofs.laws.Sure.{root-covers, covers-inside}
+use Rattle.life.proofs.laws.Way.{LookupsCome, going_start, going-down, going_end}
+use Rattle.life.proofs.holding.answer_until.Goals as goal
+use Rattle.life.proofs.holding.answer_until.Goals.{After-shown_until-q}
+
+pub root_until-q-requires : goal.root_until-q-requires
+root_until-q-requires c = let p = c.requires in (p.0.edition, p.0.sound, p.2)
+
+pub root_at-n-requires : goal.root_at-n-requires
+root_at-n-requires c = let p = c.requires in (p.0.edition, p.0.sound)
+
+pub height_of-up-requires : goal.height_of-up-requires
+height_of-up-requires c =
+    let r = c.requires.0 in
+    let a = c.args in
+    let k = root-covers r a.key c.requires.1 in
+    rw c.root_at-n.ensures (r.edition, covers-inside r _ _ _ k, few r.edition a.s.now r.sound, omega (arith, k.level))
+
+pub loop-up-init : goal.loop-up-init
+loop-up-init c =
+    let r = c.requires.0 in
+    let a = c.args in
+    rw (c.height_of-up.ensures, c.root_at-n.ensures)
+    (going_start a.l.least (decode a.l.least a.s.now) a.key a.v a.r c.root_until-q.result
+    c.root_until-q.ensures (root-covers r a.key c.requires.1))
+
+pub shown_until-q-requires : goal.shown_until-q-requires
+shown_until-q-requires c =
+    let r = c.requires.0 in
+    let a = c.args in
+    let g = c.loop-up.invariant in
+    (r.edition, covers-inside r _ _ _ g.covers, few r.edition a.s.now r.sound, g.above)
+
+-- above the leaves
+deeper : (c : After-shown_until-q)
+    →
+    let a = c.args in let k = c.loop-up in
+    LookupsCome a.l.least (decode a.l.least a.s.now) a.key a.v a.r k.q (suc (k.up - 1)) k.n
+deeper c =
+    let a = c.args in
+    let k = c.loop-up in
+    let e : k.up ≡ suc (k.up - 1) = omega (arith, c.loop-up-test.true) in
+    subst (λ (u : ℕ). LookupsCome a.l.least (decode a.l.least a.s.now) a.key a.v a.r k.q u k.n) e k.invariant
+
+pub child-n-requires : goal.child-n-requires
+child-n-requires c =
+    let r = c.requires.0 in
+    let a = c.args in
+    let k = c.loop-up in
+    let g = (deeper (goal.at.child-n-requires c).After-shown_until-q).covers in (
+      r.edition,
+      covers-inside r _ _ _ g,
+      few r.edition a.s.now r.sound,
+      covers-starts a.l.least a.v (decode a.l.least a.s.now).pages (k.up - 1) k.n a.key g,
+    )
+
+pub loop-up-preserved : goal.loop-up-preserved
+loop-up-preserved c =
+    let a = c.args in
+    let k = c.loop-up in
+    rw c.child-n.ensures
+    (going-down a.l.least (decode a.l.least a.s.now) a.key a.v a.r k.q (k.up - 1) k.n
+    c.shown_until-q.result (deeper (goal.at.loop-up-preserved c).After-shown_until-q) c.shown_until-q.ensures)
+
+pub shown_until-requires : goal.shown_until-requires
+shown_until-requires c =
+    let r = c.requires.0 in
+    let a = c.args in
+    let g = c.loop-up.invariant in
+    (r.edition, covers-inside r _ _ _ g.covers, few r.edition a.s.now r.sound, g.above)
+
+pub returns : goal.returns
+returns c =
+    let a = c.args in
+    let k = c.loop-up in
+    let e : k.up ≡ 0 = omega (arith, c.loop-up-test.false) in
+    going_end a.l.least (decode a.l.least a.s.now) a.key a.v a.r k.q k.n c.shown_until.result
+    (subst (λ (u : ℕ). LookupsCome a.l.least (decode a.l.least a.s.now) a.key a.v a.r k.q u k.n) e k.invariant)
+    c.shown_until.ensures

@@ -1,0 +1,11 @@
+use borrow.Author.Tests.{eq-eqb, ne_eqb}
+use Rattle.notes.proofs.step.low_fine.Goals as goal
+
+pub returns-then-x-eq0 : goal.returns-then-x-eq0
+returns-then-x-eq0 c = simp (eq-eqb _ _ c.if-x-eq0.true)
+
+pub returns-then-up-eq0 : goal.returns-then-up-eq0
+returns-then-up-eq0 c = simp (ne_eqb _ _ c.if-x-eq0.false, eq-eqb _ _ c.if-up-eq0.true)
+
+pub returns : goal.returns
+returns c = simp (ne_eqb _ _ c.if-x-eq0.false, ne_eqb _ _ c.if-up-eq0.false)

@@ -1,0 +1,13 @@
+-- `end_others` meets its contract: what is left is done by the keys from k on. Assumes nothing.
+use Prim.Native.Nat.{◌-◌}
+use native.Mathlib.Omega.{arith}
+use Rattle.model.specs.Walk.{key_limit}
+use Rattle.plain.specs.Plain.{end_other}
+use Rattle.plain.proofs.laws.Turns.{Turning, other-silent, turning-start, turning-on, turning-end}
+use Rattle.plain.proofs.back.end_others.Given as goal
+
+abbrev pub invariant-loop-k : goal.invariant-loop-k
+invariant-loop-k l = Turning (end_other l.w l.v) l.initial.items l.n l.items l.m l.k
+
+abbrev pub decreases-loop-k : goal.decreases-loop-k
+decreases-loop-k l = key_limit - l.k

@@ -1,0 +1,23 @@
+-- `of_edition` meets its contract. Assumes nothing.
+use Prim.Native.Nat.{ℕ}
+use native.Mathlib.Omega.{arith}
+use mathlib.Core.Path.{◌≡◌, refl, sym, ◌∙◌}
+use mathlib.Core.List.{List}
+use lib.Dec.{eqb}
+use borrow.Author.Rules.{rules}
+use Rattle.model.specs.Limits.{edition_of}
+use Rattle.model.specs.Field.{field}
+use Rattle.model.specs.Judged.{edition_ok}
+use Rattle.store.proofs.of_edition.Goals as goal
+
+edition-by : (least : ℕ) (b : List ℕ) → edition_ok least b ≡ eqb (field b 32 8) (edition_of least)
+unfolding edition_ok
+edition-by least b = refl
+
+pub field-requires : goal.field-requires
+field-requires c = (omega (arith, c.requires.1), omega arith, c.requires.2)
+
+pub returns : goal.returns
+returns c =
+    let a = c.args in sym
+    (edition-by a.l.least a.s.now ∙ rw (← c.field.ensures, ← c.edition_of.ensures))

@@ -1,0 +1,28 @@
+-- `insert_at` meets its contract. Assumes nothing.
+use Rattle.update.proofs.laws.Single.{insert-leaves, comes-to}
+use borrow.Author.Rules.{rules}
+use Rattle.update.proofs.single.insert_at.Goals as goal
+
+pub inserting-requires : goal.inserting-requires
+inserting-requires c = c.requires.0.key
+
+pub update_at-requires : goal.update_at-requires
+update_at-requires c =
+    let a = c.args in
+    let q = c.requires in
+    let p = q.0 in (
+      p.edition,
+      p.sound,
+      p.opened,
+      p.key,
+      c.inserting.ensures.1,
+      insert-leaves p a.value (search rules) _ c.inserting.ensures.0,
+      q.1,
+      q.2,
+    )
+
+pub returns : goal.returns
+returns c =
+    let a = c.args in
+    let parts = comes-to a.l.least a.s.now a.key _ _ c.inserting.ensures.0 _ _ c.update_at.ensures.number
+    c.update_at.ensures.bytes in record { number = parts.0; bytes = parts.1 }

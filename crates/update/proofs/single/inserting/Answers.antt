@@ -1,0 +1,17 @@
+-- `inserting` meets its contract. Assumes nothing.
+use native.Mathlib.Omega.{arith}
+use mathlib.Core.Path.{refl}
+use borrow.Author.Rules.{rules}
+use Rattle.edit.specs.Change.{change_of}
+use Rattle.update.proofs.single.inserting.Goals as goal
+
+pub returns : goal.returns
+unfolding change_of
+returns c = (
+  refl,
+  record {
+    takes = omega arith;
+    first = record { key = omega arith; value = search rules };
+    second = record { key = omega arith; value = omega arith };
+  },
+)

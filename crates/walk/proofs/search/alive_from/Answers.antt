@@ -1,0 +1,26 @@
+-- `alive_from` meets its contract: the first word tells the key. Assumes nothing.
+use Prim.Native.Nat.{◌+◌, ◌*◌, ◌/◌}
+use mathlib.Core.Path.{◌≡◌}
+use native.Mathlib.Omega.{arith}
+use borrow.Author.Rules.{rules}
+use borrow.Author.Tests.{lt-leb, le-leb}
+use Rattle.page.proofs.laws.Whole.{key-first}
+use Rattle.walk.specs.Scan.{entry}
+use Rattle.walk.proofs.search.alive_from.Goals as goal
+use Rattle.walk.proofs.search.alive_from.Goals.{After-first_word}
+
+key : (c : After-first_word) → let a = c.args in c.first_word.result / 256 ≡ (entry a.page.now a.i).key
+key c =
+    let a = c.args in
+    key-first a.page.now (128 + 96 * a.i) c.first_word.result c.first_word.ensures
+
+pub returns-then-first_word-wide : goal.returns-then-first_word-wide
+returns-then-first_word-wide c =
+    let a = c.args in
+    simp (lt-leb a.low (entry a.page.now a.i).key (omega (arith, key (goal.at.returns-then-first_word-wide c).After-first_word, c.wide.ensures, c.if-first_word-wide.true)))
+
+pub returns : goal.returns
+returns c =
+    let a = c.args in
+    simp (le-leb a.low (entry a.page.now a.i).key (omega (arith, key (goal.at.returns c).After-first_word, c.wide.ensures, c.if-first_word-wide.false)))
+    c.alive_in.ensures
