@@ -1,10 +1,6 @@
--- Each function of the archive, by its own routine: what a C or Rust program links. The same is said of host's functions, which these call,
--- in offered/specs/Offered. `a` is what it was handed, in the order of its parameters, `r` the number that it
--- gave, `e` what stands behind the references that it was lent when it comes back. Where no list is lent, the caller's is any.
+-- Each function of the archive, by its own code: what a C or Rust program links. What is said of each is what offered/specs/Offered says of
+-- host's function of that name, which it calls.
 -- Assumes nothing.
-use Rattle.std.specs.Prelude.{ℕ, List, [], ◌∷◌}
-use Rattle.model.specs.Ended.{to_fresh, to_fresh_second, to_check, to_open, to_commit, to_abandon, to_insert, to_delete, to_return, to_prune}
-use Rattle.model.specs.Ended.{to_lookup, to_range, to_visits, to_difference, to_life, to_state}
 use Rattle.host_c.specs.contracts.rcst_fresh as rcst-fresh
 use Rattle.host_c.proofs.rcst_fresh.Symbol as rcst-fresh-code
 use Rattle.host_c.specs.contracts.rcst_fresh_second as rcst-fresh-second
@@ -61,128 +57,9 @@ use Rattle.host_c.specs.contracts.plainly.rcst_plain_difference as rcst-plain-di
 use Rattle.host_c.proofs.plainly.rcst_plain_difference.Symbol as rcst-plain-difference-code
 use Rattle.host_c.specs.contracts.plainly.rcst_plain_life as rcst-plain-life
 use Rattle.host_c.proofs.plainly.rcst_plain_life.Symbol as rcst-plain-life-code
-use Rattle.plain.specs.Guard.{is_state, is_lent}
-use Rattle.offered.specs.Does.{Says, Does}
-use Rattle.offered.specs.Promised.{Promised, gave, Conversion, PlainPromised, plain_gave}
-
-abbrev pub Fresh : Says rcst-fresh.ended
-Fresh κs a r e = (ns : List ℕ) → Promised to_fresh a.0.now ns (gave r [] e.0.now ns)
-
-abbrev pub FreshSecond : Says rcst-fresh-second.ended
-FreshSecond κs a r e = (ns : List ℕ) → Promised to_fresh_second a.0.now ns (gave r [] e.0.now ns)
-
-abbrev pub Check : Says rcst-check.ended
-Check κs a r e = (ns : List ℕ) → Promised to_check a.0.now ns (gave r (e.1.0.now ∷ []) a.0.now ns)
-
-abbrev pub Open : Says rcst-open.ended
-Open κs a r e = (ns : List ℕ) → Promised to_open a.0.now ns (gave r [] e.0.now ns)
-
-abbrev pub Insert : Says rcst-insert.ended
-Insert κs a r e = (ns : List ℕ) → Promised (to_insert a.1.0 a.1.1.0) a.0.now ns (gave r [] e.0.now ns)
-
-abbrev pub Delete : Says rcst-delete.ended
-Delete κs a r e = (ns : List ℕ) → Promised (to_delete a.1.0) a.0.now ns (gave r [] e.0.now ns)
-
-abbrev pub Commit : Says rcst-commit.ended
-Commit κs a r e = (ns : List ℕ) → Promised to_commit a.0.now ns (gave r [] e.0.now ns)
-
-abbrev pub Abandon : Says rcst-abandon.ended
-Abandon κs a r e = (ns : List ℕ) → Promised to_abandon a.0.now ns (gave r [] e.0.now ns)
-
-abbrev pub Return : Says rcst-return.ended
-Return κs a r e = (ns : List ℕ) → Promised (to_return a.1.0) a.0.now ns (gave r [] e.0.now ns)
-
-abbrev pub Prune : Says rcst-prune.ended
-Prune κs a r e = (ns : List ℕ) → Promised (to_prune a.1.0) a.0.now ns (gave r [] e.0.now ns)
-
-abbrev pub Lookup : Says rcst-lookup.ended
-Lookup κs a r e =
-    (ns : List ℕ) → Promised (to_lookup a.1.0 a.1.1.0) a.0.now ns
-    (gave r (e.1.1.1.0.now ∷ e.1.1.1.1.0.now ∷ []) a.0.now ns)
-
-abbrev pub Range : Says rcst-range.ended
-Range κs a r e =
-    Promised (to_range a.1.0 a.1.1.0 a.1.1.1.0) a.0.now a.1.1.1.1.0.now
-    (gave r (e.1.1.1.1.1.0.now ∷ []) a.0.now e.1.1.1.1.0.now)
-
-abbrev pub Visits : Says rcst-visits.ended
-Visits κs a r e =
-    Promised (to_visits a.1.0 a.1.1.0) a.0.now a.1.1.1.0.now
-    (gave r (e.1.1.1.1.0.now ∷ []) a.0.now e.1.1.1.0.now)
-
-abbrev pub Difference : Says rcst-difference.ended
-Difference κs a r e =
-    Promised (to_difference a.1.0 a.1.1.0) a.0.now a.1.1.1.0.now
-    (gave r (e.1.1.1.1.0.now ∷ []) a.0.now e.1.1.1.0.now)
-
-abbrev pub Life : Says rcst-life.ended
-Life κs a r e =
-    Promised (to_life a.1.0) a.0.now a.1.1.0.now (gave r (e.1.1.1.0.now ∷ []) a.0.now e.1.1.0.now)
-
-abbrev pub State : Says rcst-state.ended
-State κs a r e = (ns : List ℕ) → Promised to_state a.0.now ns (gave r e.1.0.now a.0.now ns)
-
-abbrev pub Convert : Says rcst-convert.ended
-Convert κs a r e = Conversion a.0.now a.1.0.now r e.1.0.now
-
--- ---- the plain engine (2026-10): items and state are lent, where an open has no list any will do
-
-abbrev pub PlainOpen : Says rcst-plain-open.ended
-PlainOpen κs a r e =
-    (ns us : List ℕ) → PlainPromised (is_state a.0.now) to_open ns a.0.now us (plain_gave r [] ns e.0.now us) ns e.0.now
-
-abbrev pub PlainInsert : Says rcst-plain-insert.ended
-PlainInsert κs a r e =
-    (us : List ℕ) → PlainPromised (is_lent a.0.now a.1.0.now) (to_insert a.1.1.0 a.1.1.1.0) a.0.now
-    a.1.0.now us (plain_gave r [] e.0.now e.1.0.now us) e.0.now e.1.0.now
-
-abbrev pub PlainDelete : Says rcst-plain-delete.ended
-PlainDelete κs a r e =
-    (us : List ℕ) → PlainPromised (is_lent a.0.now a.1.0.now) (to_delete a.1.1.0) a.0.now a.1.0.now us
-    (plain_gave r [] e.0.now e.1.0.now us) e.0.now e.1.0.now
-
-abbrev pub PlainCommit : Says rcst-plain-commit.ended
-PlainCommit κs a r e =
-    (us : List ℕ) → PlainPromised (is_lent a.0.now a.1.0.now) to_commit a.0.now a.1.0.now us
-    (plain_gave r [] a.0.now e.1.0.now us) a.0.now e.1.0.now
-
-abbrev pub PlainAbandon : Says rcst-plain-abandon.ended
-PlainAbandon κs a r e =
-    (us : List ℕ) → PlainPromised (is_lent a.0.now a.1.0.now) to_abandon a.0.now a.1.0.now us
-    (plain_gave r [] e.0.now e.1.0.now us) e.0.now e.1.0.now
-
-abbrev pub PlainReturn : Says rcst-plain-return.ended
-PlainReturn κs a r e =
-    (us : List ℕ) → PlainPromised (is_lent a.0.now a.1.0.now) (to_return a.1.1.0) a.0.now a.1.0.now us
-    (plain_gave r [] e.0.now e.1.0.now us) e.0.now e.1.0.now
-
-abbrev pub PlainPrune : Says rcst-plain-prune.ended
-PlainPrune κs a r e =
-    (us : List ℕ) → PlainPromised (is_lent a.0.now a.1.0.now) (to_prune a.1.1.0) a.0.now a.1.0.now us
-    (plain_gave r [] e.0.now e.1.0.now us) e.0.now e.1.0.now
-
-abbrev pub PlainLookup : Says rcst-plain-lookup.ended
-PlainLookup κs a r e =
-    (us : List ℕ) → PlainPromised (is_lent a.0.now a.1.0.now) (to_lookup a.1.1.0 a.1.1.1.0) a.0.now
-    a.1.0.now us (plain_gave r (e.1.1.1.1.0.now ∷ e.1.1.1.1.1.0.now ∷ []) a.0.now a.1.0.now us) a.0.now
-    a.1.0.now
-
-abbrev pub PlainRange : Says rcst-plain-range.ended
-PlainRange κs a r e =
-    PlainPromised (is_lent a.0.now a.1.0.now) (to_range a.1.1.0 a.1.1.1.0 a.1.1.1.1.0) a.0.now
-    a.1.0.now a.1.1.1.1.1.0.now
-    (plain_gave r (e.1.1.1.1.1.1.0.now ∷ []) a.0.now a.1.0.now e.1.1.1.1.1.0.now) a.0.now a.1.0.now
-
-abbrev pub PlainDifference : Says rcst-plain-difference.ended
-PlainDifference κs a r e =
-    PlainPromised (is_lent a.0.now a.1.0.now) (to_difference a.1.1.0 a.1.1.1.0) a.0.now a.1.0.now
-    a.1.1.1.1.0.now (plain_gave r (e.1.1.1.1.1.0.now ∷ []) a.0.now a.1.0.now e.1.1.1.1.0.now)
-    a.0.now a.1.0.now
-
-abbrev pub PlainLife : Says rcst-plain-life.ended
-PlainLife κs a r e =
-    PlainPromised (is_lent a.0.now a.1.0.now) (to_life a.1.1.0) a.0.now a.1.0.now a.1.1.1.0.now
-    (plain_gave r (e.1.1.1.1.0.now ∷ []) a.0.now a.1.0.now e.1.1.1.0.now) a.0.now a.1.0.now
+use Rattle.offered.specs.Does.{Does}
+use Rattle.offered.specs.Offered.{Fresh, FreshSecond, Check, Open, Insert, Delete, Commit, Abandon, Return, Prune, Lookup, Range, Visits, Difference, Life, State, Convert}
+use Rattle.offered.specs.Offered.{PlainOpen, PlainInsert, PlainDelete, PlainCommit, PlainAbandon, PlainReturn, PlainPrune, PlainLookup, PlainRange, PlainDifference, PlainLife}
 
 -- what all of them do
 pub record AllExported (M : Type 1) : Type 2 where

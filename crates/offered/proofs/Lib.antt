@@ -1,2 +1,3 @@
 pub mod Passing
+pub mod Promising
 pub mod Offered

@@ -1,4 +1,4 @@
--- Each function that host offers, by its own routine. `a` is what it was handed, in the order of its parameters, `r` the number that it
+-- Each function that host offers, by its own code. `a` is what it was handed, in the order of its parameters, `r` the number that it
 -- gave, `e` what stands behind the references that it was lent when it comes back. Where no list is lent, the caller's is any.
 -- Assumes nothing.
 use Rattle.std.specs.Prelude.{ℕ, List, [], ◌∷◌}
