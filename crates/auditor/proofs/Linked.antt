@@ -9,7 +9,7 @@ use lib.ListN.{length, get_or}
 use borrow.Author.Tests.{le-ltb, eqb-true}
 use Rattle.model.specs.Basic.{pick}
 use Rattle.model.specs.Calls.{Ranged}
-use Rattle.model.specs.declared.Looked.TheVariants.{Refused}
+use Rattle.model.specs.Looked.{Refused}
 use Rattle.model.specs.Lent.{listed}
 use Rattle.model.specs.Ended.{to_fresh, to_fresh_second, to_check, to_state, to_open, to_commit, to_abandon, to_insert, to_delete, to_return, to_prune}
 use Rattle.model.specs.Ended.{to_lookup, to_range, to_visits, to_difference, to_life}

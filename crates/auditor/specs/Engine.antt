@@ -1,7 +1,7 @@
 -- The plain engine's calls taken as one, beside model's Ended, which does so for the tree's.
 -- Assumes nothing.
 use Rattle.std.specs.Prelude.{ℕ, Bool, true, false, List, [], ◌∷◌, length}
-use Rattle.model.specs.declared.Looked.{Looked}
+use Rattle.model.specs.Looked.{Looked}
 use Rattle.model.specs.Layout.{bit}
 use Rattle.model.specs.Calls.{looked_number, looked_found, looked_value}
 use Rattle.model.specs.Lent.{Listed, listed}

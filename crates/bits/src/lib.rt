@@ -4,30 +4,14 @@
 ghost use Rattle.std.specs.Prelude.{◌≡◌, ◌+◌, ◌*◌, ◌-◌, ◌/◌, ◌%◌, ◌^◌, ◌≤◌, ◌<◌, length};
 ghost use Rattle.model.specs.Field.{field, put_field};
 
-fn wide(x: u8) -> u64
-    ensures { result ≡ x }
-{
-    x as u64
-}
-
-// A power of two.
-fn power(k: usize) -> u64
-    requires { k < 64 }
-    ensures { result ≡ 2 ^ k }
-{
-    1 << k
-}
-
 // The number of n whole bytes from byte `first` on.
 fn word(s: &[u8], first: usize, n: usize) -> u64
     requires { (first + n ≤ length s.now) × (n ≤ 5) × (length s.now ≤ 2 ^ 40) }
     ensures { result ≡ field s.now (8 * first) (8 * n) }
 {
     let mut r: u64 = 0;
-    let mut i = 0;
-    while i < n {
-        r = r * 256 + wide(s[first + i]);
-        i += 1;
+    for i in 0..n {
+        r = r * 256 + s[first + i] as u64;
     }
     r
 }
@@ -59,7 +43,7 @@ pub fn field(s: &[u8], at: usize, width: usize) -> u32
     let n = (skip + width + 7) / 8;
     let spare = 8 * n - skip - width;
     let w = word(s, at / 8, n);
-    ((w >> spare) % power(width)) as u32
+    ((w >> spare) % (1 << width)) as u32
 }
 
 // Writes n whole bytes from byte `first` on.
@@ -67,10 +51,8 @@ fn put_word(s: &mut [u8], first: usize, n: usize, v: u64)
     requires { (first + n ≤ length s.old) × (n ≤ 5) × (length s.old ≤ 2 ^ 40) }
     ensures { s.new ≡ put_field s.old (8 * first) (8 * n) v }
 {
-    let mut i = 0;
-    while i < n {
-        s[first + i] = (v / power(8 * (n - 1 - i)) % 256) as u8;
-        i += 1;
+    for i in 0..n {
+        s[first + i] = ((v >> (8 * (n - 1 - i))) % 256) as u8;
     }
 }
 
@@ -79,8 +61,8 @@ fn mixed(w: u64, width: usize, spare: usize, v: u64) -> u64
     requires { (w < 2 ^ 40) × (width ≤ 32) × (spare < 8) × (v < 2 ^ width) }
     ensures { result ≡ (w / 2 ^ spare / 2 ^ width * 2 ^ width + v) * 2 ^ spare + w % 2 ^ spare }
 {
-    let p = power(width);
-    let q = power(spare);
+    let p = 1 << width;
+    let q = 1 << spare;
     (w / q / p * p + v) * q + w % q
 }
 
@@ -103,9 +85,9 @@ pub fn put_field(s: &mut [u8], at: usize, width: usize, v: u64)
 {
     if width <= 32 {
         put_short(s, at, width, v);
-        return;
+    } else {
+        let m = width - 32;
+        put_short(s, at, m, v >> 32);
+        put_short(s, at + m, 32, v % (1 << 32));
     }
-    let m = width - 32;
-    put_short(s, at, m, v / 4294967296);
-    put_short(s, at + m, 32, v % 4294967296);
 }

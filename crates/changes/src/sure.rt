@@ -1,71 +1,56 @@
 // The changes for a caller that may be sure of a sound store, as one is that made it and changes it by these calls alone ("checking once
 // for a run of commands"): it is spared the judging, and the answers and the bytes are the same. One that is not sure is judged.
 ghost use Rattle.std.specs.Prelude.{◌≡◌};
-ghost use Rattle.model.specs.Limits.{Edition};
 ghost use Rattle.model.specs.Lent.{leaving, open_lent, commit_lent, abandon_lent, insert_lent, delete_lent};
+ghost use Rattle.model.specs.Refusals.{number_in};
 ghost use Rattle.reads.specs.Guard.{Sure};
 
-use model::Limits;
+use model::{Limits, Refusal};
 
 // Opens an update.
-pub fn open(s: &mut [u8], l: Limits, sure: bool) -> u32
-    requires { Edition l × Sure l s.old sure }
-    ensures { leaving result s.new ≡ open_lent l.least s.old }
+pub fn open(s: &mut [u8], l: Limits, sure: bool) -> Result<(), Refusal>
+    requires { Sure l s.old sure }
+    ensures { leaving (number_in result) s.new ≡ open_lent l.least s.old }
 {
-    let n = crate::guard_opening(s, l, sure);
-    if n != 0 {
-        return n;
-    }
+    crate::guard_opening(s, l, sure)?;
     turn::begin(s, l);
-    0
+    Ok(())
 }
 
 // Commits the open update, unless its settings are the current version's.
-pub fn commit(s: &mut [u8], l: Limits, sure: bool) -> u32
-    requires { Edition l × Sure l s.old sure }
-    ensures { leaving result s.new ≡ commit_lent l.least s.old }
+pub fn commit(s: &mut [u8], l: Limits, sure: bool) -> Result<(), Refusal>
+    requires { Sure l s.old sure }
+    ensures { leaving (number_in result) s.new ≡ commit_lent l.least s.old }
 {
-    let n = crate::guard_committing(s, l, sure);
-    if n != 0 {
-        return n;
-    }
+    crate::guard_committing(s, l, sure)?;
     turn::commit(s, l);
-    0
+    Ok(())
 }
 
 // Abandons the open update.
-pub fn abandon(s: &mut [u8], l: Limits, sure: bool) -> u32
-    requires { Edition l × Sure l s.old sure }
-    ensures { leaving result s.new ≡ abandon_lent l.least s.old }
+pub fn abandon(s: &mut [u8], l: Limits, sure: bool) -> Result<(), Refusal>
+    requires { Sure l s.old sure }
+    ensures { leaving (number_in result) s.new ≡ abandon_lent l.least s.old }
 {
-    let n = crate::guard_closing(s, l, sure);
-    if n != 0 {
-        return n;
-    }
+    crate::guard_closing(s, l, sure)?;
     turn::abandon(s, l);
-    0
+    Ok(())
 }
 
 // Inserts a setting in the open update.
-pub fn insert(s: &mut [u8], l: Limits, key: u32, value: u32, sure: bool) -> u32
-    requires { Edition l × Sure l s.old sure }
-    ensures { leaving result s.new ≡ insert_lent l.least s.old key value }
+pub fn insert(s: &mut [u8], l: Limits, key: u32, value: u32, sure: bool) -> Result<(), Refusal>
+    requires { Sure l s.old sure }
+    ensures { leaving (number_in result) s.new ≡ insert_lent l.least s.old key value }
 {
-    let r = crate::updating::guard_updating(s, l, key, true, sure);
-    if r.number != 0 {
-        return r.number;
-    }
+    let r = crate::updating::guard_updating(s, l, key, true, sure)?;
     update::insert_at(s, l, r.version, r.leaf, key, value)
 }
 
 // Deletes a setting in the open update.
-pub fn delete(s: &mut [u8], l: Limits, key: u32, sure: bool) -> u32
-    requires { Edition l × Sure l s.old sure }
-    ensures { leaving result s.new ≡ delete_lent l.least s.old key }
+pub fn delete(s: &mut [u8], l: Limits, key: u32, sure: bool) -> Result<(), Refusal>
+    requires { Sure l s.old sure }
+    ensures { leaving (number_in result) s.new ≡ delete_lent l.least s.old key }
 {
-    let r = crate::updating::guard_updating(s, l, key, false, sure);
-    if r.number != 0 {
-        return r.number;
-    }
+    let r = crate::updating::guard_updating(s, l, key, false, sure)?;
     update::delete_at(s, l, r.version, r.leaf, key)
 }

@@ -3,7 +3,6 @@ use Rattle.std.specs.Prelude.{ℕ, List, [], ◌∷◌}
 use Rattle.model.specs.Page.{Page, Change}
 use Rattle.model.specs.Walk as walk
 use Rattle.model.specs.Rules.{Worked, settled, upward, lacking, work}
-use Rattle.group.specs.declared.Around.{Around}
 
 abbrev pub onward : Worked → (Change → List Page → Worked) → Worked
 onward (settled ps) k = settled ps

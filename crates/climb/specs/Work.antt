@@ -1,8 +1,10 @@
 -- One page's work: what its values stand for, and the cases.
-use Rattle.std.specs.Prelude.{ℕ, ◌+◌, ◌/◌, ◌≡◌, List, set, take, drop}
+use Rattle.std.specs.Prelude.{ℕ, ◌+◌, ◌/◌, ◌≡◌, List, set, take, drop, Option, None, Some, Result, Ok, Err}
 use Rattle.model.specs.declared.Limits.{Limits}
+use Rattle.model.specs.declared.refusal.Refusal.{Refusal}
 use Rattle.model.specs.Page.{Page, filled}
 use Rattle.model.specs.Rules as rules
+use Rattle.edit.specs.declared.Change.{Change}
 use Rattle.edit.specs.Change.{change_of}
 use Rattle.gather.specs.Gather.{pairs_in}
 use Rattle.gather.specs.Kept.{Fits}
@@ -11,23 +13,21 @@ use Rattle.parts.specs.Becomes.{Becomes}
 use Rattle.group.specs.declared.Group.{Group}
 use Rattle.group.specs.declared.Numbers.{Numbers}
 use Rattle.group.specs.Group.{group_of, routers_now}
-use Rattle.climb.specs.declared.Worked.{Worked}
-use Rattle.climb.specs.declared.Worked.TheVariants.{Settled, Upward, Lacking}
 
 -- with the pages as they then are
-unfoldable pub worked_of : Worked → List Page → rules.Worked
-worked_of Settled ps = rules.settled ps
-worked_of (Upward c) ps = rules.upward (change_of c) ps
-worked_of Lacking ps = rules.lacking
+unfoldable pub worked_of : Result (Option Change) Refusal → List Page → rules.Worked
+worked_of (Ok None) ps = rules.settled ps
+worked_of (Ok (Some c)) ps = rules.upward (change_of c) ps
+worked_of (Err r) ps = rules.lacking
 
 -- the change that goes up fits a page's entries
-abbrev pub UpFits : Worked → Type 0
-UpFits Settled = Unit {0}
-UpFits (Upward c) = Fits c
-UpFits Lacking = Unit {0}
+abbrev pub UpFits : Result (Option Change) Refusal → Type 0
+UpFits (Ok None) = Unit {0}
+UpFits (Ok (Some c)) = Fits c
+UpFits (Err r) = Unit {0}
 
 -- the bytes of `b` become those of `b'` by what the page rules make of the pages, `x`, and what goes up fits
-abbrev pub Works : (l : Limits) (b b' : List ℕ) (x : rules.Worked) (r : Worked) → Type 0
+abbrev pub Works : (l : Limits) (b b' : List ℕ) (x : rules.Worked) (r : Result (Option Change) Refusal) → Type 0
 Works l b b' x r = (worked_of r (pages_of l b') ≡ x) × Becomes l b b' (pages_of l b') × UpFits r
 
 -- the first of the pairs fill page `to`, the others page `next`

@@ -15,44 +15,49 @@ ghost use Rattle.climb.specs.Climb.{climb_up};
 
 use edit::Change;
 use group::{Around, Group};
-use model::Limits;
+use model::{Limits, Refusal};
 use plan::Way;
 pub use refill::rebuild;
 
-// What comes of a page that is not the root: it took the change in place, or its parent has a change to take, or a page is lacking.
-#[derive(Clone, Copy)]
-pub enum Worked {
-    Settled,
-    Upward(Change),
-    Lacking,
-}
-
-// A group is rebuilt, and its parent has the routers to exchange; or a page is lacking.
-fn regroup(s: &mut [u8], l: Limits, w: u32, level: u32, g: Group, size: usize) -> Worked
+// A group is rebuilt, and its parent has the routers to exchange; or a page is lacking, and nothing is written.
+fn regroup(
+    s: &mut [u8],
+    l: Limits,
+    w: u32,
+    level: u32,
+    g: Group,
+    size: usize,
+) -> Result<Option<Change>, Refusal>
     requires { ExactBytes l s.old × Grouped l s.old g × (w < 2 ^ 20) × (level < 2 ^ 4) × (size ≡ length (pages_of l s.old)) }
     ensures { Works l s.old s.new
         (regroup l.least w level (pages_of l s.old) (group_of g)) result }
 {
     let u = group::usable(s, l, w, g.routers, size);
-    let all = g.all;
-    if u.n < group::fills(l, all.n) {
-        return Worked::Lacking;
+    if u.n < group::fills(l, g.all.n) {
+        return Err(Refusal::NoPageFree);
     }
     let c = group::parent_change(g, l, u);
     rebuild(s, l, w, level, g, u);
-    Worked::Upward(c)
+    Ok(Some(c))
 }
 
-// One page that is not the root.
-pub fn work(s: &mut [u8], l: Limits, w: u32, a: Around, c: Change, size: usize) -> Worked
+// One page that is not the root: what its parent has to take, or nothing where it takes the change in place.
+pub fn work(
+    s: &mut [u8],
+    l: Limits,
+    w: u32,
+    a: Around,
+    c: Change,
+    size: usize,
+) -> Result<Option<Change>, Refusal>
     requires { ExactBytes l s.old × Placed l s.old a × Fits c × (w < 2 ^ 20) × (size ≡ length (pages_of l s.old)) }
     ensures { Works l s.old s.new
         (work l.least w (pages_of l s.old) (around_of a) (change_of c)) result }
 {
-    let n = model::wide(a.own.value);
+    let n = a.own.value as usize;
     if group::takes_in_place(s, l, n, w, c) {
         parts::change_in(s, l, n, w, c);
-        return Worked::Settled;
+        return Ok(None);
     }
     let want = parts::wanted_of(s, l, n, w, c);
     let level = parts::level_of(s, l, n);
@@ -60,29 +65,27 @@ pub fn work(s: &mut [u8], l: Limits, w: u32, a: Around, c: Change, size: usize) 
     regroup(s, l, w, level, g, size)
 }
 
-// "Work goes from the leaf up", to below the root.
-pub fn climb_up(s: &mut [u8], l: Limits, w: u32, way: Way, c: Change, size: usize) -> Worked
+// "Work goes from the leaf up", to below the root: what the root has to take, or nothing where a page below takes the change in place.
+pub fn climb_up(
+    s: &mut [u8],
+    l: Limits,
+    w: u32,
+    way: Way,
+    c: Change,
+    size: usize,
+) -> Result<Option<Change>, Refusal>
     requires { ExactBytes l s.old × Led l s.old way × Fits c × (w < 2 ^ 20) × (size ≡ length (pages_of l s.old)) }
     ensures { Works l s.old s.new
         (climb_up l.least w (ups_of way.list way.n) (change_of c) (pages_of l s.old)) result }
 {
     let list = way.list;
-    let mut k = way.n;
     let mut d = c;
-    while 0 < k {
-        k -= 1;
+    for k in (0..way.n).rev() {
         let a = list[k];
-        match work(s, l, w, a, d, size) {
-            Worked::Settled => {
-                return Worked::Settled;
-            }
-            Worked::Lacking => {
-                return Worked::Lacking;
-            }
-            Worked::Upward(e) => {
-                d = e;
-            }
+        match work(s, l, w, a, d, size)? {
+            Some(e) => d = e,
+            None => return Ok(None),
         }
     }
-    Worked::Upward(d)
+    Ok(Some(d))
 }

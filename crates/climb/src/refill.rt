@@ -19,9 +19,9 @@ fn retire(s: &mut [u8], l: Limits, w: u32, rs: Routers)
     requires { ExactBytes l s.old × Routed l s.old rs × (w < 2 ^ 20) }
     ensures { Becomes l s.old s.new (retire w (pages_of l s.old) (routers_of rs)) }
 {
-    parts::go_in(s, l, model::wide(rs.first.value), w);
-    if rs.two {
-        parts::go_in(s, l, model::wide(rs.second.value), w);
+    parts::go_in(s, l, rs.first.value as usize, w);
+    if let Some(x) = rs.second {
+        parts::go_in(s, l, x.value as usize, w);
     }
 }
 
@@ -33,8 +33,7 @@ fn one_page(s: &mut [u8], l: Limits, w: u32, level: u32, g: Group, to: usize)
         (set (retire w (pages_of l s.old) (routers_of g.routers)) to (filled w level (pairs_in g.all))) }
 {
     retire(s, l, w, g.routers);
-    let all = g.all;
-    parts::fill_in(s, l, to, level, w, all, 0, all.n);
+    parts::fill_in(s, l, to, level, w, g.all, 0, g.all.n);
 }
 
 // "more fill two, the lower taking the odd one"
@@ -45,11 +44,9 @@ fn two_pages(s: &mut [u8], l: Limits, w: u32, level: u32, g: Group, to: usize, n
         (filled_two w level (retire w (pages_of l s.old) (routers_of g.routers)) g to next) }
 {
     retire(s, l, w, g.routers);
-    let all = g.all;
-    let n = all.n;
-    let half = (n + 1) / 2;
-    parts::fill_in(s, l, to, level, w, all, 0, half);
-    parts::fill_in(s, l, next, level, w, all, half, n);
+    let half = (g.all.n + 1) / 2;
+    parts::fill_in(s, l, to, level, w, g.all, 0, half);
+    parts::fill_in(s, l, next, level, w, g.all, half, g.all.n);
 }
 
 // A group is rebuilt into the pages u, of which there are enough.
@@ -58,10 +55,9 @@ pub fn rebuild(s: &mut [u8], l: Limits, w: u32, level: u32, g: Group, u: Numbers
         × Numbered u (take 2 (usable w (pages_of l s.old) (routers_of g.routers))) × (fills l.least (pairs_in g.all) ≤ u.n) }
     ensures { Rebuilds l s.old s.new w level g u }
 {
-    let all = g.all;
-    if all.n <= l.full {
+    if g.all.n <= l.full {
         one_page(s, l, w, level, g, u.first);
-        return;
+    } else {
+        two_pages(s, l, w, level, g, u.first, u.second);
     }
-    two_pages(s, l, w, level, g, u.first, u.second);
 }

@@ -6,9 +6,8 @@ use mathlib.Core.List.{List, [], ◌∷◌, ◌++◌}
 use lib.ListN.{length, take, drop}
 use lib.Seq.{take_at, length-take-le}
 use native.Mathlib.Omega.{arith}
-use borrow.Author.Tests.{le-leb, lt-leb}
+use borrow.Author.Tests.{eq-eqb, le-leb, lt-leb}
 use Rattle.model.specs.declared.Limits.{Limits}
-use Rattle.model.specs.Limits.{limits, Edition}
 use Rattle.model.specs.Store.{Store, fresh}
 use Rattle.model.specs.Layout.{size_of, encode, decode}
 use Rattle.model.specs.Judged.{judged, is_sound, length_ok}
@@ -16,8 +15,7 @@ use Rattle.model.specs.Climb.{Result}
 use Rattle.model.specs.Calls.{insert, delete, begin, commit, abandon}
 use Rattle.model.specs.Lent.{Outcome, leaving, left, judged_first, lent, open_lent, insert_lent, delete_lent, commit_lent, abandon_lent}
 use Rattle.model.specs.Lent.{fresh_lent}
-use Rattle.page.proofs.laws.Editions.{edition-of}
-use Rattle.store.proofs.laws.Answers.{length_rest, done-store}
+use Rattle.store.proofs.laws.Answers.{done-store}
 use Rattle.lines.specs.declared.Answer.TheVariants.{Done, Refused}
 use Rattle.lines.specs.Session.{Said, answered, outcome, stored, settings}
 use Rattle.console.specs.declared.Reply.{Reply}
@@ -33,20 +31,19 @@ pub back : (q z : List ℕ) (pages : ℕ) → pages * 256 ≡ length q → store
 back q z pages e = take_at q z (pages * 256) (sym e)
 
 -- what a call asks of the program, which is sure of a store that it has
-pub asks : (l : Limits) → l ≡ limits 4 → (bytes : List ℕ) (pages : ℕ) → Sure bytes pages → 0 < pages
-    → Edition l × (true ≡ true → is_sound l.least (store_in bytes pages) ≡ true)
-asks l e bytes pages s h =
-    (edition-of 4 e (omega arith) (omega arith), λ t. rw (ap (λ (x : Limits). x.least) e) (s h))
+pub asks : (l : Limits) → l.least ≡ 4 → (bytes : List ℕ) (pages : ℕ) → Sure bytes pages → 0 < pages
+    → true ≡ true → is_sound l.least (store_in bytes pages) ≡ true
+asks l e bytes pages s h t = rw e (s h)
 
 -- a call that changes the store
-pub updated : (o : ℕ → Outcome) (l : Limits) (n : ℕ) (bytes q : List ℕ) (pages : ℕ) (r : Reply) → l ≡ limits 4 → leaving n q ≡ o l.least
+pub updated : (o : ℕ → Outcome) (l : Limits) (n : ℕ) (bytes q : List ℕ) (pages : ℕ) (r : Reply) → l.least ≡ 4 → leaving n q ≡ o l.least
     → r ≡ record { pages = pages; answer = answered n; count = 0 } → pages ≤ 256 → length bytes ≡ 65536
     → length q ≡ length (store_in bytes pages) → (0 < pages → is_sound 4 (o 4).store ≡ true)
     → Single (outcome (o 4)) (q ++ drop (pages * 256) bytes) r
 updated o l n bytes q pages r one e f h long same stays =
     let g : pages * 256 ≡ length q = front bytes pages h long ∙ sym same in
     let at : store_in (q ++ drop (pages * 256) bytes) pages ≡ q = back q (drop (pages * 256) bytes) pages g in
-    let left : leaving n q ≡ o 4 = e ∙ ap (λ (x : Limits). o x.least) one in
+    let left : leaving n q ≡ o 4 = e ∙ ap o one in
     subst
     (λ (x : Reply). Single (outcome (o 4)) (q ++ drop (pages * 256) bytes) x)
     (sym f)
@@ -108,9 +105,10 @@ module _ (p : List ℕ) (n : ℕ) (e : n * 256 ≡ length p) (few : 6 ≤ n) (ma
   size = omega arith
 
   right : length_ok 4 p ≡ true
+  unfolding length_ok
   right =
       let whole : length p % 256 ≡ 0 = omega arith in
-      length_rest 4 p whole (omega (arith, size)) ∙ le-leb (size_of 4 p) 4096 (omega (arith, size))
+      rw (eq-eqb (length p % 256) 0 whole, le-leb 6 (size_of 4 p) (omega (arith, size)), le-leb (size_of 4 p) 4096 (omega (arith, size)))
 
   fresh-made : (fresh_lent 4 p).store ≡ encode 4 (fresh n)
   fresh-made = sym (done-store 4 p right) ∙ ap (λ (m : ℕ). encode 4 (fresh m)) size

@@ -1,5 +1,6 @@
 -- Laws that belong to no one function.
 pub mod Staying
+pub mod Refusing
 pub mod Keeping
 pub mod Ranging
 pub mod Settings

@@ -15,8 +15,6 @@ use Rattle.model.specs.Judged.{length_ok}
 use Rattle.model.specs.Near.{range_near}
 use Rattle.model.specs.Calls.{Ranged, rule, first_of, ranged_in, ranged_by}
 use Rattle.model.specs.Lent.{Listed, range_lent}
-use Rattle.walk.specs.declared.Counted.{Counted}
-use Rattle.walk.specs.Counted.{with_list}
 use Rattle.walk.proofs.laws.Written.{length-numbers}
 use Rattle.lines.specs.declared.Answer.TheVariants.{Refused, Count}
 use Rattle.lines.specs.declared.Command.TheVariants.{Range}
@@ -91,9 +89,9 @@ range_none bytes list pages lo hi v z =
     })
 
 -- what the call gave, and the list after it
-module _ (bytes : List ℕ) (pages lo hi v : ℕ) (ns list : List ℕ) (r : Counted) (size : length ns ≡ 10040) (few : pages ≤ 256)
-    (e : with_list r list ≡ range_lent 4 (store_in bytes pages) lo hi v ns) where
-  answers : Session.ranged_by r.number r.count list ≡ (said 4 (store_in bytes pages) (Range lo hi v)).answers
+module _ (bytes : List ℕ) (pages lo hi v : ℕ) (ns : List ℕ) (r : Listed) (size : length ns ≡ 10040) (few : pages ≤ 256)
+    (e : r ≡ range_lent 4 (store_in bytes pages) lo hi v ns) where
+  answers : Session.ranged_by r.number r.count r.list ≡ (said 4 (store_in bytes pages) (Range lo hi v)).answers
   unfolding said
   answers =
       ap ranged e
@@ -104,24 +102,24 @@ module _ (bytes : List ℕ) (pages lo hi v : ℕ) (ns list : List ℕ) (r : Coun
   store = refl
 
   pub count_fits : r.number ≡ 0 → 2 * r.count ≤ 10040
-  count_fits z = rw size at (fits 4 (store_in bytes pages) lo hi v ns (with_list r list) e z)
+  count_fits z = rw size at (fits 4 (store_in bytes pages) lo hi v ns r e z)
 
-  refused-by : (n : ℕ) → (n ≡ 0 → ⊥) → Session.ranged_by n r.count list ≡ Refused n ∷ []
+  refused-by : (n : ℕ) → (n ≡ 0 → ⊥) → Session.ranged_by n r.count r.list ≡ Refused n ∷ []
   refused-by zero z = absurd (z refl)
   refused-by (suc n) z = refl
 
   pub range-refused : Sure bytes pages → (r.number ≡ 0 → ⊥)
-      → Replies (said 4 (store_in bytes pages) (Range lo hi v)) bytes list
+      → Replies (said 4 (store_in bytes pages) (Range lo hi v)) bytes r.list
       (record { pages = pages; answer = Refused r.number; count = 0 })
   range-refused s z =
       record { store = store; answers = sym answers ∙ refused-by r.number z; listed = omega arith; pages = few; sure = s }
 
   pub range-done : Sure bytes pages → r.number ≡ 0
-      → Replies (said 4 (store_in bytes pages) (Range lo hi v)) bytes list
+      → Replies (said 4 (store_in bytes pages) (Range lo hi v)) bytes r.list
       (record { pages = pages; answer = Count r.count; count = r.count })
   range-done s z = record {
     store = store;
-    answers = sym answers ∙ ap (λ (n : ℕ). Session.ranged_by n r.count list) z;
+    answers = sym answers ∙ ap (λ (n : ℕ). Session.ranged_by n r.count r.list) z;
     listed = count_fits z;
     pages = few;
     sure = s;

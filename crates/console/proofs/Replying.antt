@@ -1,4 +1,5 @@
 -- From what each call gave to what is said of its command. Assumes nothing.
+use Rattle.std.specs.Prelude.{None}
 use Prim.Native.Nat.{ℕ, ◌+◌, ◌*◌, ◌≤◌}
 use native.Mathlib.Omega.{arith}
 use lib.ListN.{take}
@@ -9,7 +10,6 @@ use Rattle.model.specs.Basic.{flat_map}
 use Rattle.lines.specs.declared.Answer.{Answer}
 use Rattle.lines.specs.declared.Answer.TheVariants.{BadLine}
 use Rattle.lines.specs.declared.Command.{Command}
-use Rattle.lines.specs.declared.Heard.TheVariants.{Nothing}
 use Rattle.lines.specs.declared.Command.TheVariants.{Store, Open, Insert, Delete, Commit, Abandon, Get, Bad}
 use Rattle.lines.specs.Answers.{text_of, Put}
 use Rattle.lines.specs.Session.{Said, outcome, looked, settings, stored, said}
@@ -82,5 +82,5 @@ obeyed {s} {bytes} {list} {d} {d'} {at} {e} {r} k p h = record {
 }
 
 pub nothing-heard : (bytes : List ℕ) (pages : ℕ) (d : List ℕ) (at : ℕ) → pages ≤ 256 → Sure bytes pages
-    → Obeys (heard_said (store_in bytes pages) Nothing) bytes d at d (record { pages = pages; at = at })
+    → Obeys (heard_said (store_in bytes pages) None) bytes d at d (record { pages = pages; at = at })
 nothing-heard bytes pages d at h s = record { store = refl; put = put-none d at; room = omega arith; pages = h; sure = s }

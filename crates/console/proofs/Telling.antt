@@ -5,9 +5,8 @@ use mathlib.Core.Path.{◌≡◌, refl, ap, sym, subst, ◌∙◌}
 use mathlib.Core.List.{List, [], ◌++◌, append-nil, append_assoc}
 use lib.ListN.{length, take, drop, length-append, length-drop}
 use lib.Seq.{take_at, take_all, drop-drop, length-take-le}
+use Rattle.std.specs.Prelude.{Option, Some, None}
 use Rattle.model.specs.Basic.{flat_map}
-use Rattle.lines.specs.declared.Heard.{Heard}
-use Rattle.lines.specs.declared.Heard.TheVariants.{Whole, Nothing}
 use Rattle.lines.specs.declared.Line.{Line}
 use Rattle.lines.specs.declared.Held.{Held}
 use Rattle.lines.specs.declared.Taken.{Taken}
@@ -19,16 +18,16 @@ use Rattle.console.specs.declared.Obeyed.{Obeyed}
 use Rattle.console.specs.declared.Filled.{Filled}
 use Rattle.console.specs.Obeys.{store_in, Sure, heard_said, Obeys, PieceUpto, LastWritten}
 
-pub writes-heard : (b : List ℕ) (h : Heard) (ls : List Line)
+pub writes-heard : (b : List ℕ) (h : Option Line) (ls : List Line)
     → writes 4 b (heard_lines h ++ ls) ≡ flat_map text_of (heard_said b h).answers ++ writes 4 (heard_said b h).store ls
 unfolding writes
-writes-heard b (Whole l) ls = refl
-writes-heard b Nothing ls = refl
+writes-heard b (Some l) ls = refl
+writes-heard b None ls = refl
 
-pub after-heard : (b : List ℕ) (h : Heard) (ls : List Line) → after 4 b (heard_lines h ++ ls) ≡ after 4 (heard_said b h).store ls
+pub after-heard : (b : List ℕ) (h : Option Line) (ls : List Line) → after 4 b (heard_lines h ++ ls) ≡ after 4 (heard_said b h).store ls
 unfolding after
-after-heard b (Whole l) ls = refl
-after-heard b Nothing ls = refl
+after-heard b (Some l) ls = refl
+after-heard b None ls = refl
 
 -- what was put stands behind what stood before it
 take_put : {d d' t : List ℕ} {at r : ℕ} → Put d at t d' r → at ≤ length d → take r d' ≡ take at d ++ t
@@ -118,11 +117,11 @@ nothing : (t c : List ℕ) → t ++ writes 4 c [] ≡ t
 unfolding writes
 nothing t c = append-nil t
 
-pub ended : {h : Held} {b bytes d d' : List ℕ} {o : Obeyed} (x : Heard) → x ≡ last_of (reading h) → Obeys (heard_said b x) bytes d 0 d' o
+pub ended : {h : Held} {b bytes d d' : List ℕ} {o : Obeyed} (x : Option Line) → x ≡ last_of (reading h) → Obeys (heard_said b x) bytes d 0 d' o
     → o.at ≤ length d' → LastWritten h b d' o.at
 ended {h} {b} {bytes} {d} {d'} {o} x e a len = record {
   written =
-      ap (λ (y : Heard). writes 4 b (heard_lines y)) (sym e)
+      ap (λ (y : Option Line). writes 4 b (heard_lines y)) (sym e)
       ∙ ap (writes 4 b) (sym (append-nil (heard_lines x)))
       ∙ writes-heard b x []
       ∙ nothing (flat_map text_of (heard_said b x).answers) (heard_said b x).store

@@ -1,11 +1,10 @@
 -- Where the program keeps what a line does: the store in the front of its bytes, the answers in its buffer. What each function here
 -- promises of a command, over lines/specs/Session.
 -- Assumes nothing.
-use Rattle.std.specs.Prelude.{ℕ, ◌+◌, ◌*◌, ◌<◌, ◌≤◌, ◌≡◌, true, List, [], ◌∷◌, ◌++◌, length, take, drop}
+use Rattle.std.specs.Prelude.{ℕ, ◌+◌, ◌*◌, ◌<◌, ◌≤◌, ◌≡◌, true, List, [], ◌∷◌, ◌++◌, length, take, drop, Option, Some, None}
 use Rattle.model.specs.Basic.{flat_map}
 use Rattle.model.specs.Judged.{is_sound}
-use Rattle.lines.specs.declared.Heard.{Heard}
-use Rattle.lines.specs.declared.Heard.TheVariants.{Whole, Nothing}
+use Rattle.lines.specs.declared.Line.{Line}
 use Rattle.lines.specs.declared.Held.{Held}
 use Rattle.lines.specs.Answers.{text_of, Put}
 use Rattle.lines.specs.Reading.{reading, read_on, told, last_of, heard_lines}
@@ -49,9 +48,9 @@ pub record Obeys (s : Said) (bytes d : List ℕ) (at : ℕ) (d' : List ℕ) (r :
   pub sure : Sure bytes r.pages
 
 -- a line that ended, or none
-abbrev pub heard_said : List ℕ → Heard → Said
-heard_said b (Whole l) = said 4 b l.command
-heard_said b Nothing = record { store = b; answers = [] }
+abbrev pub heard_said : List ℕ → Option Line → Said
+heard_said b (Some l) = said 4 b l.command
+heard_said b None = record { store = b; answers = [] }
 
 -- Of a piece of the input: what is to be written for its lines, the store after them and the line that is being read then are what
 -- stands in the buffer, and what is left for the bytes not used.

@@ -8,7 +8,7 @@ use crate::showing::show;
 use crate::storing::make;
 use crate::updating::{abandon, commit, delete, insert, open};
 use crate::{Obeyed, Reply};
-use lines::{Answer, Command, Heard};
+use lines::{Answer, Command, Line};
 
 fn single(pages: usize, answer: Answer) -> Reply
     ensures { result ≡ record { pages = pages; answer = answer; count = 0 } }
@@ -61,7 +61,7 @@ fn obey(
 
 // A line that ended, or none.
 pub(crate) fn answer(
-    heard: Heard,
+    heard: Option<Line>,
     pages: usize,
     bytes: &mut [u8],
     list: &mut [u32],
@@ -74,10 +74,7 @@ pub(crate) fn answer(
         out.new result }
 {
     match heard {
-        Heard::Whole(line) => {
-            let command = line.command;
-            obey(command, pages, bytes, list, out, at)
-        }
-        Heard::Nothing => Obeyed { pages, at },
+        Some(line) => obey(line.command, pages, bytes, list, out, at),
+        None => Obeyed { pages, at },
     }
 }

@@ -3,19 +3,20 @@ ghost use Rattle.std.specs.Prelude.{◌≡◌, ◌≤◌, length};
 ghost use Rattle.lines.specs.declared.Command.TheVariants.{Range};
 ghost use Rattle.lines.specs.Session.{said, looked as Session·looked};
 ghost use Rattle.model.specs.Lent.{lookup_lent};
+ghost use Rattle.model.specs.Refusals.{looked_in};
 ghost use Rattle.console.specs.Obeys.{store_in, Sure, Replies};
 
 use crate::Reply;
 use lines::Answer;
-use model::Looked;
+use model::Refusal;
 
-fn looked(r: Looked) -> Answer
-    ensures { result ≡ Session·looked r }
+fn looked(r: Result<Option<u32>, Refusal>) -> Answer
+    ensures { result ≡ Session·looked (looked_in r) }
 {
     match r {
-        Looked::Value(v) => Answer::Value(v),
-        Looked::Absent => Answer::Absent,
-        Looked::Refused(n) => Answer::Refused(n),
+        Ok(Some(v)) => Answer::Value(v),
+        Ok(None) => Answer::Absent,
+        Err(refusal) => Answer::Refused(refusal.number()),
     }
 }
 
@@ -50,18 +51,16 @@ pub(crate) fn range(
     }
     let l = model::edition_one();
     let e = pages * 256;
-    let r = reads::sure::range(&bytes[..e], l, low, high, v, list);
-    if r.number != 0 {
-        return Reply {
+    match reads::sure::range(&bytes[..e], l, low, high, v, list) {
+        Ok(count) => Reply {
             pages,
-            answer: Answer::Refused(r.number),
+            answer: Answer::Count(count as u32),
+            count,
+        },
+        Err(refusal) => Reply {
+            pages,
+            answer: Answer::Refused(refusal.number()),
             count: 0,
-        };
-    }
-    let found = r.count as u32;
-    Reply {
-        pages,
-        answer: Answer::Count(found),
-        count: r.count,
+        },
     }
 }

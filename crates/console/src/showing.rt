@@ -12,13 +12,11 @@ fn show_settings(list: &[u32], count: usize, out: &mut [u8], at: usize) -> usize
     ensures put { Put out.old at (flat_map text_of (settings (take (2 * count) list.now))) out.new result }
     ensures upper_bound { result ≤ at + 22 * count }
 {
-    let mut i = 0;
     let mut e = at;
-    while i < count {
+    for i in 0..count {
         let key = list[2 * i];
         let value = list[2 * i + 1];
         e = lines::say(Answer::Setting { key, value }, out, e);
-        i += 1;
     }
     e
 }

@@ -6,21 +6,20 @@ ghost use Rattle.console.specs.Obeys.{store_in, Sure, Single};
 use crate::Reply;
 use crate::updating::told;
 use lines::Answer;
+use model::Refusal;
 
 // "for N outside 6 to 256 (an earlier store stays), the answer is `refused 1`"
 pub(crate) fn make(n: u32, pages: usize, bytes: &mut [u8]) -> Reply
     requires { (pages ≤ 256) × (length bytes.old ≡ 65536) × Sure bytes.old pages }
     ensures { Single (stored 4 (store_in bytes.old pages) n) bytes.new result }
 {
-    if n < 6 {
-        return told(pages, 1);
-    }
-    if 256 < n {
-        return told(pages, 1);
+    if n < 6 || 256 < n {
+        return told(pages, Err(Refusal::WrongLength));
     }
     let made = n as usize;
     let e = made * 256;
-    store::fresh(&mut bytes[..e]);
+    // so many pages are a right length, and nothing is refused
+    let _ = store::fresh(&mut bytes[..e]);
     Reply {
         pages: made,
         answer: Answer::Done,

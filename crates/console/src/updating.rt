@@ -4,28 +4,30 @@
 ghost use Rattle.std.specs.Prelude.{◌≡◌, ◌≤◌, length};
 ghost use Rattle.lines.specs.Session.{answered, outcome};
 ghost use Rattle.model.specs.Lent.{open_lent, insert_lent, delete_lent, commit_lent, abandon_lent};
+ghost use Rattle.model.specs.Refusals.{number_in};
 ghost use Rattle.console.specs.Obeys.{store_in, Sure, Single};
 
 use crate::Reply;
 use lines::Answer;
+use model::Refusal;
 
 // "`ok`", or "`refused 6`".
-fn answer(n: u32) -> Answer
-    ensures { result ≡ answered n }
+fn answer(given: Result<(), Refusal>) -> Answer
+    ensures { result ≡ answered (number_in given) }
 {
-    if n == 0 {
-        return Answer::Done;
+    match given {
+        Ok(()) => Answer::Done,
+        Err(refusal) => Answer::Refused(refusal.number()),
     }
-    Answer::Refused(n)
 }
 
-// A call's number as the reply, with nothing behind it.
-pub(crate) fn told(pages: usize, n: u32) -> Reply
-    ensures { result ≡ record { pages = pages; answer = answered n; count = 0 } }
+// What a call gave as the reply, with nothing behind it.
+pub(crate) fn told(pages: usize, given: Result<(), Refusal>) -> Reply
+    ensures { result ≡ record { pages = pages; answer = answered (number_in given); count = 0 } }
 {
     Reply {
         pages,
-        answer: answer(n),
+        answer: answer(given),
         count: 0,
     }
 }
@@ -35,12 +37,12 @@ pub(crate) fn open(pages: usize, bytes: &mut [u8]) -> Reply
     ensures { Single (outcome (open_lent 4 (store_in bytes.old pages))) bytes.new result }
 {
     if pages == 0 {
-        return told(pages, 1);
+        return told(pages, Err(Refusal::WrongLength));
     }
     let l = model::edition_one();
     let e = pages * 256;
-    let n = changes::sure::open(&mut bytes[..e], l, true);
-    told(pages, n)
+    let r = changes::sure::open(&mut bytes[..e], l, true);
+    told(pages, r)
 }
 
 pub(crate) fn insert(key: u32, value: u32, pages: usize, bytes: &mut [u8]) -> Reply
@@ -48,12 +50,12 @@ pub(crate) fn insert(key: u32, value: u32, pages: usize, bytes: &mut [u8]) -> Re
     ensures { Single (outcome (insert_lent 4 (store_in bytes.old pages) key value)) bytes.new result }
 {
     if pages == 0 {
-        return told(pages, 1);
+        return told(pages, Err(Refusal::WrongLength));
     }
     let l = model::edition_one();
     let e = pages * 256;
-    let n = changes::sure::insert(&mut bytes[..e], l, key, value, true);
-    told(pages, n)
+    let r = changes::sure::insert(&mut bytes[..e], l, key, value, true);
+    told(pages, r)
 }
 
 pub(crate) fn delete(key: u32, pages: usize, bytes: &mut [u8]) -> Reply
@@ -61,12 +63,12 @@ pub(crate) fn delete(key: u32, pages: usize, bytes: &mut [u8]) -> Reply
     ensures { Single (outcome (delete_lent 4 (store_in bytes.old pages) key)) bytes.new result }
 {
     if pages == 0 {
-        return told(pages, 1);
+        return told(pages, Err(Refusal::WrongLength));
     }
     let l = model::edition_one();
     let e = pages * 256;
-    let n = changes::sure::delete(&mut bytes[..e], l, key, true);
-    told(pages, n)
+    let r = changes::sure::delete(&mut bytes[..e], l, key, true);
+    told(pages, r)
 }
 
 pub(crate) fn commit(pages: usize, bytes: &mut [u8]) -> Reply
@@ -74,12 +76,12 @@ pub(crate) fn commit(pages: usize, bytes: &mut [u8]) -> Reply
     ensures { Single (outcome (commit_lent 4 (store_in bytes.old pages))) bytes.new result }
 {
     if pages == 0 {
-        return told(pages, 1);
+        return told(pages, Err(Refusal::WrongLength));
     }
     let l = model::edition_one();
     let e = pages * 256;
-    let n = changes::sure::commit(&mut bytes[..e], l, true);
-    told(pages, n)
+    let r = changes::sure::commit(&mut bytes[..e], l, true);
+    told(pages, r)
 }
 
 pub(crate) fn abandon(pages: usize, bytes: &mut [u8]) -> Reply
@@ -87,10 +89,10 @@ pub(crate) fn abandon(pages: usize, bytes: &mut [u8]) -> Reply
     ensures { Single (outcome (abandon_lent 4 (store_in bytes.old pages))) bytes.new result }
 {
     if pages == 0 {
-        return told(pages, 1);
+        return told(pages, Err(Refusal::WrongLength));
     }
     let l = model::edition_one();
     let e = pages * 256;
-    let n = changes::sure::abandon(&mut bytes[..e], l, true);
-    told(pages, n)
+    let r = changes::sure::abandon(&mut bytes[..e], l, true);
+    told(pages, r)
 }

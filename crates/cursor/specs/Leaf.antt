@@ -1,7 +1,6 @@
 -- The leaf for a key on a sound store's bytes, and the first setting from a key on.
 use Rattle.std.specs.Prelude.{ℕ, List}
 use Rattle.model.specs.declared.Limits.{Limits}
-use Rattle.model.specs.Store.{page}
 use Rattle.model.specs.Walk.{settings}
 use Rattle.model.specs.Layout.{decode}
 use Rattle.cursor.specs.declared.Under.{Under}

@@ -2,7 +2,7 @@
 // along the key at which the next leaf begins, so that it finds its way on without a list of pages.
 #![tactic(auto)]
 
-ghost use Rattle.std.specs.Prelude.{◌≡◌, ◌-◌, ◌<◌};
+ghost use Rattle.std.specs.Prelude.{◌≡◌, ◌+◌, ◌<◌};
 ghost use Rattle.model.specs.Page.{pairs_at};
 ghost use Rattle.model.specs.Store.{page};
 ghost use Rattle.model.specs.Walk.{settings, key_limit};
@@ -12,9 +12,13 @@ ghost use Rattle.cursor.specs.First.{at_or_above, leads};
 ghost use Rattle.cursor.specs.Leaf.{Below};
 
 use model::{Limits, Pair};
+use walk::KEYS;
 
-// "Keys are 0 to 16,777,215".
-const KEYS: u32 = 16777216;
+// A key behind all keys stands for no setting: two cursors are compared by it, with no case for the one that has come to its end.
+pub const NONE: Pair = Pair {
+    key: KEYS,
+    value: 0,
+};
 
 // A page on the way down for a key, and the key at which the next page of its level begins; behind the last one 16,777,216.
 #[derive(Clone, Copy)]
@@ -23,25 +27,23 @@ pub struct Under {
     pub high: u32,
 }
 
-// One page further down, from a page `up` levels above the leaves.
+// One page further down, to a page `up` levels above the leaves.
 fn step(s: &[u8], l: Limits, v: u32, key: u32, u: Under, up: usize) -> Under
-    requires { Walkable l s.now v × Below l s.now v up key u × (0 < up) }
-    ensures { Below l s.now v (up - 1) key result }
+    requires { Walkable l s.now v × Below l s.now v (up + 1) key u }
+    ensures { Below l s.now v up key result }
 {
     let p = store::part(s, l, u.page);
     let h = page::head_of(p, l);
     let o = walk::own_router(p, h.count, v, key);
     let i = walk::next_place(p, h.count, v, 0, KEYS - 1, o.next);
-    if i < h.count {
-        let e = page::entry_at(p, i);
-        return Under {
-            page: model::wide(o.page),
-            high: e.key,
-        };
-    }
+    let high = if i < h.count {
+        page::entry_at(p, i).key
+    } else {
+        u.high
+    };
     Under {
-        page: model::wide(o.page),
-        high: u.high,
+        page: o.page as usize,
+        high,
     }
 }
 
@@ -51,14 +53,12 @@ pub fn leaf_for(s: &[u8], l: Limits, v: u32, key: u32) -> Under
     ensures { Below l s.now v 0 key result }
 {
     let n = walk::root_at(s, l, v);
-    let mut up = walk::height_of(s, l, n);
     let mut u = Under {
         page: n,
         high: KEYS,
     };
-    while 0 < up {
+    for up in (0..walk::height_of(s, l, n)).rev() {
         u = step(s, l, v, key, u, up);
-        up -= 1;
     }
     u
 }
@@ -73,18 +73,16 @@ fn first_in(s: &[u8], l: Limits, v: u32, key: u32, u: Under) -> Pair
     let i = walk::next_place(p, h.count, v, key, KEYS - 1, 0);
     if i < h.count {
         let e = page::entry_at(p, i);
-        return Pair {
+        Pair {
             key: e.key,
             value: e.value,
-        };
-    }
-    Pair {
-        key: KEYS,
-        value: 0,
+        }
+    } else {
+        NONE
     }
 }
 
-// The first setting of a version at or above a key; with the key 16,777,216 where there is none.
+// The first setting of a version at or above a key.
 pub fn first_from(s: &[u8], l: Limits, v: u32, low: u32) -> Pair
     requires { Walkable l s.now v }
     ensures { result ≡ leads (at_or_above low (settings (decode l.least s.now) v)) }
@@ -98,8 +96,5 @@ pub fn first_from(s: &[u8], l: Limits, v: u32, low: u32) -> Pair
         }
         key = u.high;
     }
-    Pair {
-        key: KEYS,
-        value: 0,
-    }
+    NONE
 }

@@ -1,7 +1,6 @@
 -- One of two leaves as it is gone through: what is left of it in a stretch of keys.
 use Rattle.std.specs.Prelude.{ℕ, ◌+◌, ◌≤◌, ◌<◌, true, ◌≡◌, List, ◌∷◌}
 use Rattle.model.specs.declared.Pair.{Pair}
-use Rattle.model.specs.Entry.{pair}
 use Rattle.model.specs.Walk.{between, key_limit}
 use Rattle.model.specs.Inner.{rising}
 use Rattle.model.specs.Tree.{in_range}

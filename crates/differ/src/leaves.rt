@@ -12,11 +12,10 @@ ghost use Rattle.model.specs.Telling.{Space, Gathers, deltas};
 
 use cursor::Under;
 use model::{Entry, Limits, Pair};
+use walk::KEYS;
 
-// "Keys are 0 to 16,777,215".
-const KEYS: u32 = 16777216;
-
-// What is asked: the two versions, the lowest and the highest key, and whether the differences are to be written or only counted.
+// What is asked: the two versions, the lowest and the highest key, and whether the differences are to be written or only counted. That is a
+// flag and no closure, since one contract says of both passes what is gathered (model/specs/Telling).
 #[derive(Clone, Copy)]
 pub struct Ask {
     pub old: u32,
@@ -26,7 +25,7 @@ pub struct Ask {
     pub write: bool,
 }
 
-// How far a leaf is gone through: the place of its next setting in the stretch, and the setting; behind the last one the key 16,777,216.
+// How far a leaf is gone through: the place of its next setting in the stretch, and the setting, or none.
 #[derive(Clone, Copy)]
 pub struct Side {
     pub place: usize,
@@ -39,23 +38,17 @@ fn side_from(page: &[u8], n: usize, v: u32, low: u32, high: u32, i: usize) -> Si
     ensures { At page.now n v low high result
         × (rest page.now n v low high result.place ≡ rest page.now n v low high i) }
 {
-    let k = walk::next_place(page, n, v, low, high, i);
-    if k < n {
-        let e = page::entry_at(page, k);
-        let x = Pair {
+    let place = walk::next_place(page, n, v, low, high, i);
+    let pair = if place < n {
+        let e = page::entry_at(page, place);
+        Pair {
             key: e.key,
             value: e.value,
-        };
-        return Side { place: k, pair: x };
-    }
-    let none = Pair {
-        key: KEYS,
-        value: 0,
+        }
+    } else {
+        cursor::NONE
     };
-    Side {
-        place: n,
-        pair: none,
-    }
+    Side { place, pair }
 }
 
 // The next setting at or above a key that is at most one above where the side stands.
@@ -64,13 +57,11 @@ fn on(page: &[u8], n: usize, v: u32, low: u32, high: u32, x: Side, key: u32) -> 
     ensures { At page.now n v low high result
         × (rest page.now n v low high result.place ≡ at_or_above key (rest page.now n v low high x.place)) }
 {
-    if key <= x.pair.key {
-        return x;
+    if key <= x.pair.key || n <= x.place {
+        x
+    } else {
+        side_from(page, n, v, low, high, x.place + 1)
     }
-    if n <= x.place {
-        return x;
-    }
-    side_from(page, n, v, low, high, x.place + 1)
 }
 
 // What differs from the stretch in the leaf p, of m entries, to that in the leaf q, of n, behind the first `found` of a list; gives how
@@ -100,10 +91,7 @@ fn merge(p: &[u8], m: usize, q: &[u8], n: usize, a: Ask, list: &mut [u32], found
 fn moves(e: Entry, u: u32, v: u32) -> bool
     ensures { result ≡ moves u v e }
 {
-    if page::alive_at(e, u) {
-        return !page::alive_at(e, v);
-    }
-    page::alive_at(e, v)
+    page::alive_at(e, u) != page::alive_at(e, v)
 }
 
 // Whether none of a page's entries is: it shows the same at both.
@@ -111,15 +99,7 @@ fn quiet(page: &[u8], n: usize, u: u32, v: u32) -> bool
     requires { Stands page.now n }
     ensures { result ≡ quiet u v (from page.now 0 n) }
 {
-    let mut i = 0;
-    while i < n {
-        let e = page::entry_at(page, i);
-        if moves(e, u, v) {
-            return false;
-        }
-        i += 1;
-    }
-    true
+    (0..n).all(|i| !moves(page::entry_at(page, i), u, v))
 }
 
 // Whether two leaves are one page that shows the same at both versions.
@@ -127,10 +107,7 @@ fn same(page: &[u8], n: usize, a: Ask, x: usize, y: usize) -> bool
     requires { Stands page.now n }
     ensures { result ≡ (eqb x y && quiet a.old a.new (from page.now 0 n)) }
 {
-    if x != y {
-        return false;
-    }
-    quiet(page, n, a.old, a.new)
+    x == y && quiet(page, n, a.old, a.new)
 }
 
 // Whether the leaves of a stretch are such a page: nothing differs there.

@@ -5,24 +5,20 @@
 mod leaves;
 mod telling;
 
-ghost use Rattle.std.specs.Prelude.{◌≡◌, ◌≤◌, length, ltb};
-ghost use Rattle.model.specs.Basic.{pick};
+ghost use Rattle.std.specs.Prelude.{◌≡◌, ◌≤◌, length};
 ghost use Rattle.model.specs.Walk.{key_limit};
 ghost use Rattle.model.specs.Told.{told_by};
 ghost use Rattle.model.specs.Differ.{delta_numbers};
 ghost use Rattle.model.specs.Lent.{listed};
 ghost use Rattle.model.specs.Telling.{Space, Gathers, deltas};
-ghost use Rattle.walk.specs.Counted.{with_list};
+ghost use Rattle.model.specs.Refusals.{listed_in};
 ghost use Rattle.walk.specs.Sure.{Walkable};
 ghost use Rattle.differ.specs.Merge.{Onward};
 ghost use Rattle.differ.specs.Listing.{between, left_of, next_of};
 
 use leaves::Ask;
-use model::{Delta, Limits};
-use walk::Counted;
-
-// "Keys are 0 to 16,777,215".
-const KEYS: u32 = 16777216;
+use model::{Delta, Limits, ListRefusal};
+use walk::KEYS;
 
 // What the cursors of versions u and v say of the first key at or above a key that either has.
 pub fn next(s: &[u8], l: Limits, u: u32, v: u32, key: u32) -> Delta
@@ -32,16 +28,6 @@ pub fn next(s: &[u8], l: Limits, u: u32, v: u32, key: u32) -> Delta
     let x = cursor::first_from(s, l, u, key);
     let y = cursor::first_from(s, l, v, key);
     telling::compared(x, y)
-}
-
-// The lower of two keys.
-fn lower(a: u32, b: u32) -> u32
-    ensures { result ≡ pick (ltb a b) a b }
-{
-    if a < b {
-        return a;
-    }
-    b
 }
 
 // A key, and where the first of the leaves for it at two versions ends.
@@ -61,7 +47,7 @@ pub fn past(s: &[u8], l: Limits, u: u32, v: u32, from: u32) -> Gap
     while key < KEYS {
         let x = cursor::leaf_for(s, l, u, key);
         let y = cursor::leaf_for(s, l, v, key);
-        let high = lower(x.high, y.high);
+        let high = x.high.min(y.high);
         let a = Ask {
             old: u,
             new: v,
@@ -88,13 +74,13 @@ fn tell(s: &[u8], l: Limits, u: u32, v: u32, list: &mut [u32], write: bool) -> u
     while key < KEYS {
         let x = cursor::leaf_for(s, l, u, key);
         let y = cursor::leaf_for(s, l, v, key);
-        let high = lower(x.high, y.high);
+        let high = x.high.min(y.high);
         let a = Ask {
             old: u,
             new: v,
             low: key,
             high: high - 1,
-            write: write,
+            write,
         };
         found = leaves::tell(s, l, a, x, y, list, found);
         key = high;
@@ -104,21 +90,21 @@ fn tell(s: &[u8], l: Limits, u: u32, v: u32, list: &mut [u32], write: bool) -> u
 
 // What differs from version u to version v of a sound store: the count, and key, kind, old value and new value of each in the
 // caller's list. They are counted before any is written, so that 14 leaves the list untouched.
-pub fn difference(s: &[u8], l: Limits, u: u32, v: u32, list: &mut [u32]) -> Counted
+pub fn difference(
+    s: &[u8],
+    l: Limits,
+    u: u32,
+    v: u32,
+    list: &mut [u32],
+) -> Result<usize, ListRefusal>
     requires { Walkable l s.now u × Walkable l s.now v }
-    ensures { with_list result list.new
+    ensures { listed_in result list.new
         ≡ listed list.old (told_by delta_numbers 4 0 (length list.old) (between l s.now u v)) }
 {
     let found = tell(s, l, u, v, list, false);
     if list.len() < 4 * found {
-        return Counted {
-            number: 14,
-            count: found,
-        };
+        return Err(ListRefusal::TooShort(found));
     }
     tell(s, l, u, v, list, true);
-    Counted {
-        number: 0,
-        count: found,
-    }
+    Ok(found)
 }

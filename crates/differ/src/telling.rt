@@ -5,39 +5,32 @@ ghost use Rattle.model.specs.Telling.{written, Space, Gathers, deltas};
 
 use model::{Delta, Pair};
 
-// What two cursors say of the smaller of their keys; 3 where both have it with one value.
+// What two cursors say of the smaller of their keys; 3 where both have it with one value. The kind is a number, and 3 one of them, as the
+// definitions have it: the key is told in each case, since the merge goes on behind it.
 pub fn compared(x: Pair, y: Pair) -> Delta
     ensures { result ≡ compared x y }
 {
     if x.key < y.key {
-        return Delta {
+        Delta {
             key: x.key,
             kind: 1,
             old: x.value,
             new: 0,
-        };
-    }
-    if y.key < x.key {
-        return Delta {
+        }
+    } else if y.key < x.key {
+        Delta {
             key: y.key,
             kind: 0,
             old: 0,
             new: y.value,
-        };
-    }
-    if x.value == y.value {
-        return Delta {
+        }
+    } else {
+        Delta {
             key: x.key,
-            kind: 3,
+            kind: if x.value == y.value { 3 } else { 2 },
             old: x.value,
             new: y.value,
-        };
-    }
-    Delta {
-        key: x.key,
-        kind: 2,
-        old: x.value,
-        new: y.value,
+        }
     }
 }
 
@@ -60,9 +53,8 @@ pub fn put(list: &mut [u32], k: usize, d: Delta, write: bool) -> usize
     if d.kind == 3 {
         return k;
     }
-    if !write {
-        return k + 1;
+    if write {
+        put_four(list, k, d);
     }
-    put_four(list, k, d);
     k + 1
 }

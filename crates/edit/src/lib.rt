@@ -1,14 +1,13 @@
 // What a change, an end or an abandon does to one page, in place.
 #![tactic(auto)]
 
-use model::{Entry, Limits, Pair};
+use model::{Limits, Pair};
 use page::Head;
 
 pub mod enter;
 pub mod sift;
 
 ghost use Rattle.std.specs.Prelude.{◌≡◌, ◌&&◌, ◌||◌, ℕ, ◌+◌, ◌*◌, ◌^◌, ◌≤◌, ◌<◌, length, get_or, take, drop};
-ghost use Rattle.model.specs.Limits.{Edition};
 ghost use Rattle.model.specs.Page.{filled, gone, changed};
 ghost use Rattle.model.specs.Calls.{back};
 ghost use Rattle.model.specs.Layout.{encode_page, decode_page};
@@ -17,7 +16,8 @@ ghost use Rattle.edit.specs.Change.{change_of, first};
 ghost use Rattle.edit.specs.Fill.{nil, Fitting};
 ghost use Rattle.edit.specs.Sift.{freed_or_sifted};
 
-// A change to a page: the keys that end, the first `drops` of two, and the pairs that come in, the first `takes` of two.
+// A change to a page: the keys that end, the first `drops` of two, and the pairs that come in, the first `takes` of two. There is no heap,
+// and a change has two of each at the most.
 #[derive(Clone, Copy)]
 pub struct Change {
     pub drops: u32,
@@ -28,21 +28,9 @@ pub struct Change {
     pub take2: Pair,
 }
 
-pub fn both(a: bool, b: bool) -> bool
-    ensures { result ≡ (a && b) }
-{
-    if a { b } else { false }
-}
-
-pub fn either(a: bool, b: bool) -> bool
-    ensures { result ≡ (a || b) }
-{
-    if a { true } else { b }
-}
-
 // An active page is freed, another put under the rule.
 fn free_or_sift(page: &mut [u8], l: Limits, rule: sift::Rule, w: u32)
-    requires { Edition l × Exact l.least page.old × (w < 2 ^ 20) }
+    requires { Exact l.least page.old × (w < 2 ^ 20) }
     ensures { page.new ≡ encode_page l.least (freed_or_sifted rule w (decode_page l.least page.old)) }
 {
     let h = page::head_of(page, l);
@@ -55,7 +43,7 @@ fn free_or_sift(page: &mut [u8], l: Limits, rule: sift::Rule, w: u32)
 
 // A page that goes: an active one is freed, another killed.
 pub fn go(page: &mut [u8], l: Limits, w: u32)
-    requires { Edition l × Exact l.least page.old × (w < 2 ^ 20) }
+    requires { Exact l.least page.old × (w < 2 ^ 20) }
     ensures { page.new ≡ encode_page l.least (gone w (decode_page l.least page.old)) }
 {
     free_or_sift(page, l, sift::Rule::Kill, w);
@@ -63,7 +51,7 @@ pub fn go(page: &mut [u8], l: Limits, w: u32)
 
 // What an abandon makes of a page.
 pub fn undo(page: &mut [u8], l: Limits, w: u32)
-    requires { Edition l × Exact l.least page.old × (w < 2 ^ 20) }
+    requires { Exact l.least page.old × (w < 2 ^ 20) }
     ensures { page.new ≡ encode_page l.least (back w (decode_page l.least page.old)) }
 {
     free_or_sift(page, l, sift::Rule::Back, w);
@@ -71,27 +59,22 @@ pub fn undo(page: &mut [u8], l: Limits, w: u32)
 
 // The keys that a change drops end. Where it drops none the page stays as it is, and nothing is written.
 fn end_dropped(page: &mut [u8], l: Limits, w: u32, c: Change)
-    requires { Edition l × Exact l.least page.old × (w < 2 ^ 20) }
+    requires { Exact l.least page.old × (w < 2 ^ 20) }
     ensures { page.new ≡ encode_page l.least (first w c (decode_page l.least page.old)) }
 {
-    if c.drops == 0 {
-        return;
-    }
-    sift::sift(
-        page,
-        l,
-        sift::Rule::End {
+    if c.drops != 0 {
+        let rule = sift::Rule::End {
             n: c.drops,
             a: c.drop1,
             b: c.drop2,
-        },
-        w,
-    );
+        };
+        sift::sift(page, l, rule, w);
+    }
 }
 
 // A page takes a change in place.
 pub fn take_change(page: &mut [u8], l: Limits, w: u32, c: Change)
-    requires { Edition l × Exact l.least page.old × (w < 2 ^ 20) × (c.take1.key < 2 ^ 24) × (c.take2.key < 2 ^ 24)
+    requires { Exact l.least page.old × (w < 2 ^ 20) × (c.take1.key < 2 ^ 24) × (c.take2.key < 2 ^ 24)
         × (length (changed w (change_of c) (decode_page l.least page.old)).entries ≤ 5 * l.least) }
     ensures { page.new ≡ encode_page l.least (changed w (change_of c) (decode_page l.least page.old)) }
 {
@@ -102,31 +85,19 @@ pub fn take_change(page: &mut [u8], l: Limits, w: u32, c: Change)
 
 // A page of version w that holds n pairs of a list, from place `from` on.
 pub fn fill(page: &mut [u8], l: Limits, level: u32, w: u32, list: [Pair; 56], from: usize, n: usize)
-    requires { Edition l × (length page.old ≡ 64 * l.least) × (level < 2 ^ 4) × (w < 2 ^ 20) × (n ≤ 5 * l.least) × (from + n ≤ 56)
+    requires { (length page.old ≡ 64 * l.least) × (level < 2 ^ 4) × (w < 2 ^ 20) × (n ≤ 5 * l.least) × (from + n ≤ 56)
         × ((k : ℕ) → Fitting (get_or list k nil)) }
     ensures { page.new ≡ encode_page l.least (filled w level (take n (drop from list))) }
 {
     page::clear(page);
-    let mut k = 0;
-    while k < n {
-        let x = list[from + k];
-        page::put_entry(
-            page,
-            k,
-            Entry {
-                key: x.key,
-                start: w,
-                end: page::ALIVE,
-                value: x.value,
-            },
-        );
-        k += 1;
+    for k in 0..n {
+        page::put_entry(page, k, enter::born(w, list[from + k]));
     }
     page::put_head(
         page,
         l,
         Head {
-            level: level,
+            level,
             count: n,
             start: w,
             end: page::ALIVE,

@@ -1,12 +1,13 @@
 // Entries of a page that meet their fates under a rule, and are closed up.
 ghost use Rattle.std.specs.Prelude.{◌≡◌, true, ◌+◌, ◌*◌, ◌^◌, ◌≤◌, ◌<◌, length, eqb};
-ghost use Rattle.model.specs.Limits.{Edition, live_shown};
+ghost use Rattle.model.specs.Limits.{live_shown};
 ghost use Rattle.model.specs.Basic.{those};
+ghost use Rattle.model.specs.Calls.{revived_end};
 ghost use Rattle.model.specs.Layout.{lives, read_entry, read_entries, count_of, encode_page, decode_page};
 ghost use Rattle.page.specs.Head.{put_live};
 ghost use Rattle.page.specs.Exact.{Exact};
 ghost use Rattle.page.specs.Stage.{staged, entries_in};
-ghost use Rattle.edit.specs.Fate.{fate_of, fate_at, end_if, back_if, among_of, end_of, left, laid, stay};
+ghost use Rattle.edit.specs.Fate.{fate_of, fate_at, end_if, among_of, end_of, left, laid, stay};
 ghost use Rattle.edit.specs.Sift.{sifted, sifted_page};
 
 use model::{Entry, Limits};
@@ -23,72 +24,47 @@ pub enum Rule {
     Back,
 }
 
-// What becomes of an entry.
-#[derive(Clone, Copy)]
-pub struct Fate {
-    pub kept: bool,
-    pub entry: Entry,
-}
-
 // Whether k is among the first n of a and b.
-fn among(k: u32, n: u32, a: u32, b: u32) -> bool
+pub fn among(k: u32, n: u32, a: u32, b: u32) -> bool
     ensures { result ≡ among_of k n a b }
 {
-    crate::either(crate::both(1 <= n, k == a), crate::both(2 <= n, k == b))
+    1 <= n && k == a || 2 <= n && k == b
 }
 
-fn end_if(yes: bool, w: u32, e: Entry) -> Fate
+// An entry that ends at w if `yes`. One made at w goes: its span would be empty.
+fn end_if(yes: bool, w: u32, e: Entry) -> Option<Entry>
     ensures { result ≡ end_if yes w e }
 {
-    if yes {
-        // An entry made at w goes: its span would be empty.
-        let older = e.start != w;
-        Fate {
-            kept: older,
-            entry: Entry {
-                key: e.key,
-                start: e.start,
-                end: w,
-                value: e.value,
-            },
-        }
+    if !yes {
+        Some(e)
+    } else if e.start == w {
+        None
     } else {
-        Fate {
-            kept: true,
-            entry: e,
-        }
+        Some(Entry { end: w, ..e })
     }
 }
 
-fn back_if(yes: bool, e: Entry) -> Entry
-    ensures { result ≡ back_if yes e }
+// "Ends equal to it become alive again."
+fn revived_end(w: u32, end: u32) -> u32
+    ensures { result ≡ revived_end w end }
 {
-    if yes {
-        Entry {
-            key: e.key,
-            start: e.start,
-            end: page::ALIVE,
-            value: e.value,
-        }
-    } else {
-        e
-    }
+    if end == w { page::ALIVE } else { end }
 }
 
-// What becomes of an entry under a rule.
-fn meet(rule: Rule, w: u32, e: Entry) -> Fate
+// What is left of an entry under a rule.
+fn meet(rule: Rule, w: u32, e: Entry) -> Option<Entry>
     ensures { result ≡ fate_of rule w e }
 {
     match rule {
         Rule::Kill => end_if(page::alive_at(e, w), w, e),
-        Rule::End { n, a, b } => end_if(
-            crate::both(page::alive_at(e, w), among(e.key, n, a, b)),
-            w,
-            e,
-        ),
-        Rule::Back => Fate {
-            kept: e.start != w,
-            entry: back_if(e.end == w, e),
+        Rule::End { n, a, b } => end_if(page::alive_at(e, w) && among(e.key, n, a, b), w, e),
+        Rule::Back => if e.start == w {
+            None
+        } else {
+            Some(Entry {
+                end: revived_end(w, e.end),
+                ..e
+            })
         },
     }
 }
@@ -99,8 +75,8 @@ fn end_of(rule: Rule, w: u32, end: u32) -> u32
 {
     match rule {
         Rule::Kill => w,
-        Rule::End { n: _, a: _, b: _ } => end,
-        Rule::Back => if end == w { page::ALIVE } else { end },
+        Rule::End { .. } => end,
+        Rule::Back => revived_end(w, end),
     }
 }
 
@@ -110,11 +86,8 @@ fn has_key(page: &[u8], i: usize, key: u32) -> bool
     ensures { result ≡ eqb (read_entry page.now (128 + 96 * i)).key key }
 {
     let a = words::first_word(page, i);
-    let k = model::wide(key) * 256;
-    if a < k {
-        return false;
-    }
-    a < k + 256
+    let k = key as usize * 256;
+    k <= a && a < k + 256
 }
 
 // Whether entry i of a page has a key among the first n of a and b.
@@ -122,10 +95,7 @@ fn named(page: &[u8], i: usize, n: u32, a: u32, b: u32) -> bool
     requires { (16 + 12 * i + 12 ≤ length page.now) × (length page.now ≤ 2 ^ 40) }
     ensures { result ≡ among_of (read_entry page.now (128 + 96 * i)).key n a b }
 {
-    crate::either(
-        crate::both(1 <= n, has_key(page, i, a)),
-        crate::both(2 <= n, has_key(page, i, b)),
-    )
+    1 <= n && has_key(page, i, a) || 2 <= n && has_key(page, i, b)
 }
 
 // Whether entry i of a page surely stays as it is: one word tells it of most.
@@ -151,45 +121,43 @@ fn step(page: &mut [u8], rule: Rule, w: u32, i: usize, j: usize) -> usize
         words::move_entry(page, i, j);
         return j + 1;
     }
-    let f = meet(rule, w, page::entry_at(page, i));
-    if f.kept {
-        page::put_entry(page, j, f.entry);
-        return j + 1;
+    match meet(rule, w, page::entry_at(page, i)) {
+        Some(e) => {
+            page::put_entry(page, j, e);
+            j + 1
+        }
+        None => j,
     }
-    j
 }
 
 // The entries of a page under a rule, closed up; gives how many are left.
 fn squeeze(page: &mut [u8], l: Limits, count: usize, rule: Rule, w: u32) -> usize
-    requires { Edition l × Exact l.least page.old × (count ≡ count_of l.least page.old) × (w < 2 ^ 20) }
+    requires { Exact l.least page.old × (count ≡ count_of l.least page.old) × (w < 2 ^ 20) }
     ensures { (page.new ≡ staged l.least page.old (sifted rule w (entries_in l.least page.old)))
         × (result ≡ length (sifted rule w (entries_in l.least page.old))) }
 {
     let mut j = 0;
-    let mut i = 0;
-    while i < count {
+    for i in 0..count {
         j = step(page, rule, w, i, j);
-        i += 1;
     }
     j
 }
 
 // Writes the live count of a page that has `count` entries. They are counted only where the edition has bits for it.
 fn show_live(page: &mut [u8], l: Limits, count: usize)
-    requires { Edition l × (count < 64) × (16 + 12 * count ≤ length page.old) × (length page.old ≤ 2 ^ 40) }
+    requires { (count < 64) × (16 + 12 * count ≤ length page.old) × (length page.old ≤ 2 ^ 40) }
     ensures { page.new ≡ put_live l.least page.old
         (live_shown l.least (length (those lives (read_entries page.old 128 count)))) }
 {
-    if l.least <= 4 {
-        return;
+    if l.least > 4 {
+        let live = page::live_among(page, count);
+        page::put_live(page, l, live);
     }
-    let live = page::live_among(page, count);
-    page::put_live(page, l, live);
 }
 
 // A page under a rule.
 pub fn sift(page: &mut [u8], l: Limits, rule: Rule, w: u32)
-    requires { Edition l × Exact l.least page.old × (w < 2 ^ 20) }
+    requires { Exact l.least page.old × (w < 2 ^ 20) }
     ensures { page.new ≡ encode_page l.least (sifted_page rule w (decode_page l.least page.old)) }
 {
     let h = page::head_of(page, l);
@@ -199,10 +167,9 @@ pub fn sift(page: &mut [u8], l: Limits, rule: Rule, w: u32)
         page,
         l,
         Head {
-            level: h.level,
             count: n,
-            start: h.start,
             end: end_of(rule, w, h.end),
+            ..h
         },
     );
     show_live(page, l, n);

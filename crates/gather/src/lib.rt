@@ -1,67 +1,59 @@
 // Lists of pairs by value: what is gathered from pages.
 #![tactic(auto)]
 
-ghost use Rattle.std.specs.Prelude.{◌≡◌, [], ◌∷◌, ◌++◌, ◌+◌, ◌-◌, ◌≤◌, ◌<◌, length, take, drop};
+ghost use Rattle.std.specs.Prelude.{◌≡◌, [], ◌∷◌, ◌++◌, ◌&&◌, not, ◌+◌, ◌≤◌, ◌<◌, length, eqb};
 ghost use Rattle.model.specs.Basic.{has};
-ghost use Rattle.model.specs.Entry.{enter_pair};
+ghost use Rattle.model.specs.Entry.{enter_pair, live_at};
 ghost use Rattle.model.specs.Page.{wanted, changed, pairs_at};
 ghost use Rattle.model.specs.Layout.{decode_page};
-ghost use Rattle.edit.specs.Change.{one, change_of};
+ghost use Rattle.edit.specs.Change.{change_of};
 ghost use Rattle.edit.specs.Fill.{Fitting};
 ghost use Rattle.gather.specs.Gather.{Good, Lists, pairs_in};
 ghost use Rattle.gather.specs.Place.{place_in};
 ghost use Rattle.gather.specs.Kept.{Counted, Fits, kept_pairs};
 
 use edit::Change;
-use model::{Limits, Pair};
+use model::{Entry, Limits, Pair};
 
 mod test;
 
 pub use test::{has_enough, has_room};
 
 // Pairs gathered: the first n of the list. There is room for what two pages of the largest edition hold: 7 times its least, less one.
+// A list and its length: there is no heap, and a gathered list is handed on by value.
 #[derive(Clone, Copy)]
 pub struct Gather {
     pub list: [Pair; 56],
     pub n: usize,
 }
 
-// No pairs.
-fn none() -> Gather
-    ensures { Lists result [] }
-{
-    Gather {
-        list: [Pair { key: 0, value: 0 }; 56],
-        n: 0,
+impl Gather {
+    // Where a key stands: before the first greater one.
+    fn place(&self, k: u32) -> usize
+        requires { Good self.now }
+        ensures place { result ≡ place_in k (pairs_in self.now) }
+        ensures within { result ≤ self.now.n }
+    {
+        for i in 0..self.n {
+            if k < self.list[i].key {
+                return i;
+            }
+        }
+        self.n
     }
-}
 
-// A pair more.
-fn pushed(g: Gather, x: Pair) -> Gather
-    requires { Good g × (g.n < 56) × Fitting x }
-    ensures { Lists result (pairs_in g ++ (x ∷ [])) }
-{
-    let mut l = g.list;
-    let n = g.n;
-    l[n] = x;
-    Gather { list: l, n: n + 1 }
-}
-
-// The pairs of b from place `from` up to, not including, place `to` behind those of g.
-fn copied(g: Gather, b: Gather, from: usize, to: usize) -> Gather
-    requires { Good g × Good b × (from ≤ to) × (to ≤ b.n) × (g.n + (to - from) ≤ 56) }
-    ensures { Lists result (pairs_in g ++ take (to - from) (drop from (pairs_in b))) }
-{
-    let l = b.list;
-    let mut list = g.list;
-    let mut n = g.n;
-    let mut i = from;
-    while i < to {
-        list[n] = l[i];
-        n += 1;
-        i += 1;
+    // A pair put into its place.
+    fn entered(self, x: Pair) -> Gather
+        requires { Good self × (self.n < 56) × Fitting x }
+        ensures { Lists result (enter_pair x (pairs_in self)) }
+    {
+        let p = self.place(x.key);
+        let n = self.n + 1;
+        let mut list = self.list;
+        list[p] = x;
+        list[p + 1..n].copy_from_slice(&self.list[p..self.n]);
+        Gather { list, n }
     }
-    Gather { list, n }
 }
 
 // The pairs of b behind those of a.
@@ -69,44 +61,31 @@ pub fn joined(a: Gather, b: Gather) -> Gather
     requires { Good a × Good b × (a.n + b.n ≤ 56) }
     ensures { Lists result (pairs_in a ++ pairs_in b) }
 {
-    copied(a, b, 0, b.n)
-}
-
-// Where a key stands among pairs: before the first greater one.
-fn place_in(g: Gather, k: u32) -> usize
-    requires { Good g }
-    ensures { result ≡ place_in k (pairs_in g) }
-{
-    let l = g.list;
-    let n = g.n;
-    let mut i = 0;
-    while i < n {
-        let x = l[i];
-        if k < x.key {
-            return i;
-        }
-        i += 1;
-    }
-    i
-}
-
-// A pair put into its place.
-fn entered(g: Gather, x: Pair) -> Gather
-    requires { Good g × (g.n < 56) × Fitting x }
-    ensures { Lists result (enter_pair x (pairs_in g)) }
-{
-    let p = place_in(g, x.key);
-    copied(pushed(copied(none(), g, 0, p), x), g, p, g.n)
+    let n = a.n + b.n;
+    let mut list = a.list;
+    list[a.n..n].copy_from_slice(&b.list[..b.n]);
+    Gather { list, n }
 }
 
 // Whether a key is among those that a change drops.
-pub(crate) fn dropped(c: Change, k: u32) -> bool
+fn dropped(c: Change, k: u32) -> bool
     ensures { result ≡ has k (change_of c).drop }
 {
-    edit::either(
-        edit::both(1 <= c.drops, k == c.drop1),
-        edit::both(2 <= c.drops, k == c.drop2),
-    )
+    edit::sift::among(k, c.drops, c.drop1, c.drop2)
+}
+
+// Whether an entry of a page is still wanted at w after a change.
+pub(crate) fn remains(e: Entry, w: u32, c: Change) -> bool
+    ensures { result ≡ (live_at w e && not (has e.key (change_of c).drop)) }
+{
+    page::alive_at(e, w) && !dropped(c, e.key)
+}
+
+// Whether a change made in place lets an entry go: one that it ends and that starts at w.
+fn goes(e: Entry, w: u32, c: Change) -> bool
+    ensures { result ≡ ((live_at w e && has e.key (change_of c).drop) && eqb e.start w) }
+{
+    page::alive_at(e, w) && dropped(c, e.key) && e.start == w
 }
 
 // The pairs of a page alive at w, without those that a change drops.
@@ -115,19 +94,16 @@ fn kept_pairs(page: &[u8], l: Limits, w: u32, c: Change) -> Gather
     ensures { Lists result (kept_pairs w (change_of c) (decode_page l.least page.now).entries) }
 {
     let h = page::head_of(page, l);
-    let count = h.count;
     let mut list = [Pair { key: 0, value: 0 }; 56];
     let mut n = 0;
-    let mut i = 0;
-    while i < count {
+    for i in 0..h.count {
         let e = page::entry_at(page, i);
         // Each is written behind those kept so far, and counted if it is one of them: a list by value in a branch would be copied whole.
         list[n] = Pair {
             key: e.key,
             value: e.value,
         };
-        n += one(edit::both(page::alive_at(e, w), !dropped(c, e.key)));
-        i += 1;
+        n += usize::from(remains(e, w, c));
     }
     Gather { list, n }
 }
@@ -156,19 +132,12 @@ pub fn wanted(page: &[u8], l: Limits, w: u32, c: Change) -> Gather
 {
     let g = kept_pairs(page, l, w, c);
     if c.takes == 0 {
-        return g;
+        g
+    } else if c.takes == 1 {
+        g.entered(c.take1)
+    } else {
+        g.entered(c.take1).entered(c.take2)
     }
-    let h = entered(g, c.take1);
-    if c.takes == 1 {
-        return h;
-    }
-    entered(h, c.take2)
-}
-
-pub(crate) fn one(yes: bool) -> usize
-    ensures { (result ≡ one yes) × (result ≤ 1) }
-{
-    if yes { 1 } else { 0 }
 }
 
 // How many entries a page has, dead ones counted, with the change made in place: an entry that it ends goes only if it starts at w.
@@ -177,14 +146,9 @@ pub fn after(page: &[u8], l: Limits, w: u32, c: Change) -> usize
     ensures { result ≡ length (changed w (change_of c) (decode_page l.least page.now)).entries }
 {
     let h = page::head_of(page, l);
-    let count = h.count;
     let mut n = 0;
-    let mut i = 0;
-    while i < count {
-        let e = page::entry_at(page, i);
-        let ends = edit::both(page::alive_at(e, w), dropped(c, e.key));
-        n += one(!edit::both(ends, e.start == w));
-        i += 1;
+    for i in 0..h.count {
+        n += usize::from(!goes(page::entry_at(page, i), w, c));
     }
     n + c.takes as usize
 }

@@ -1,22 +1,13 @@
 // The two tests of a change in place, with no list gathered.
-ghost use Rattle.std.specs.Prelude.{◌≡◌, ◌&&◌, not, ◌*◌, leb, length};
-ghost use Rattle.model.specs.Basic.{has};
-ghost use Rattle.model.specs.Entry.{live_at};
+ghost use Rattle.std.specs.Prelude.{◌≡◌, ◌*◌, leb, length};
 ghost use Rattle.model.specs.Page.{wanted, changed};
 ghost use Rattle.model.specs.Layout.{decode_page};
 ghost use Rattle.edit.specs.Change.{change_of};
 ghost use Rattle.gather.specs.Kept.{Counted, Fits};
 
-use crate::one;
+use crate::remains;
 use edit::Change;
-use model::{Entry, Limits};
-
-// Whether an entry of a page is still wanted at w after a change.
-fn remains(e: Entry, w: u32, c: Change) -> bool
-    ensures { result ≡ (live_at w e && not (has e.key (change_of c).drop)) }
-{
-    edit::both(page::alive_at(e, w), !crate::dropped(c, e.key))
-}
+use model::Limits;
 
 // "at least 4 live": whether a page's wanted list has so many. Counting ends once it has.
 pub fn has_enough(page: &[u8], l: Limits, w: u32, c: Change) -> bool
@@ -24,18 +15,14 @@ pub fn has_enough(page: &[u8], l: Limits, w: u32, c: Change) -> bool
     ensures { result ≡ leb l.least (length (wanted w (change_of c) (decode_page l.least page.now))) }
 {
     let h = page::head_of(page, l);
-    let count = h.count;
-    let least = l.least;
     let mut n = c.takes as usize;
-    let mut i = 0;
-    while i < count {
-        if least <= n {
+    for i in 0..h.count {
+        if l.least <= n {
             return true;
         }
-        n += one(remains(page::entry_at(page, i), w, c));
-        i += 1;
+        n += usize::from(remains(page::entry_at(page, i), w, c));
     }
-    least <= n
+    l.least <= n
 }
 
 // "at most 20 entries, dead ones counted", with the change made. A change ends entries and may let some go, so one that finds room
@@ -45,8 +32,5 @@ pub fn has_room(page: &[u8], l: Limits, w: u32, c: Change) -> bool
     ensures { result ≡ leb (length (changed w (change_of c) (decode_page l.least page.now)).entries) (5 * l.least) }
 {
     let h = page::head_of(page, l);
-    if h.count + c.takes as usize <= l.room {
-        return true;
-    }
-    crate::after(page, l, w, c) <= l.room
+    h.count + c.takes as usize <= l.room || crate::after(page, l, w, c) <= l.room
 }

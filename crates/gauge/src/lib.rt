@@ -12,19 +12,7 @@ use model::Pair;
 fn fits(len: usize, at: usize, width: usize, n: usize) -> bool
     ensures { result ≡ fits len at width n }
 {
-    if 1048576 < len {
-        return false;
-    }
-    if 1048576 < at {
-        return false;
-    }
-    if 32 < width {
-        return false;
-    }
-    if 1048576 < n {
-        return false;
-    }
-    at + 96 * n <= 8 * len
+    len <= 1048576 && at <= 1048576 && width <= 32 && n <= 1048576 && at + 96 * n <= 8 * len
 }
 
 // The sum of n fields of `width` bits: at bit `at`, and at every 96th behind it, as one field of each entry is read.
@@ -36,10 +24,8 @@ pub extern "C" fn gauge_fields(s: &[u8], at: usize, width: usize, n: usize) -> u
         return 0;
     }
     let mut r: u64 = 0;
-    let mut i = 0;
-    while i < n {
+    for i in 0..n {
         r += bits::field(s, at + 96 * i, width) as u64;
-        i += 1;
     }
     r
 }
@@ -53,11 +39,9 @@ pub extern "C" fn gauge_entries(page: &[u8], n: usize) -> u64
         return 0;
     }
     let mut r: u64 = 0;
-    let mut i = 0;
-    while i < n {
+    for i in 0..n {
         let e = page::entry_at(page, i);
         r += e.key as u64 + e.start as u64 + e.end as u64 + e.value as u64;
-        i += 1;
     }
     r
 }
@@ -66,16 +50,7 @@ pub extern "C" fn gauge_entries(page: &[u8], n: usize) -> u64
 fn fill_fits(len: usize, w: u32, key: u32, n: usize) -> bool
     ensures { result ≡ fill_fits len w key n }
 {
-    if len != 256 {
-        return false;
-    }
-    if 1048575 < w {
-        return false;
-    }
-    if 16777215 < key {
-        return false;
-    }
-    n <= 20
+    len == 256 && w <= 1048575 && key <= 16777215 && n <= 20
 }
 
 // Fills a page anew: a leaf of version w with n entries, all of one key and value. 1 if that was done.
@@ -88,10 +63,7 @@ pub extern "C" fn gauge_fill(page: &mut [u8], w: u32, key: u32, value: u32, n: u
     if !fill_fits(page.len(), w, key, n) {
         return 0;
     }
-    let list = [Pair {
-        key: key,
-        value: value,
-    }; 56];
+    let list = [Pair { key, value }; 56];
     edit::fill(page, model::edition_one(), 1, w, list, 0, n);
     1
 }

@@ -4,7 +4,6 @@
 
 ghost use Rattle.std.specs.Prelude.{◌≡◌, ◌*◌, ◌<◌, ◌&&◌, leb, ltb, eqb, length};
 ghost use Rattle.model.specs.Basic.{pick};
-ghost use Rattle.model.specs.Limits.{Edition};
 ghost use Rattle.model.specs.Store.{page};
 ghost use Rattle.model.specs.Rules.{gather_by};
 ghost use Rattle.model.specs.Needs.{takes_in_place};
@@ -27,19 +26,16 @@ pub use used::{active_ones, usable};
 // The place of a key among a page's live routers: the last one at or below it, and its neighbours.
 #[derive(Clone, Copy)]
 pub struct Around {
-    pub leftmost: bool,
-    pub left: Pair,
+    pub left: Option<Pair>,
     pub own: Pair,
-    pub rightmost: bool,
-    pub right: Pair,
+    pub right: Option<Pair>,
 }
 
-// One router or two, by key; of one the second repeats the first.
+// One router or two, by key.
 #[derive(Clone, Copy)]
 pub struct Routers {
-    pub two: bool,
     pub first: Pair,
-    pub second: Pair,
+    pub second: Option<Pair>,
 }
 
 // The pages of one level that are rebuilt together: their routers, and the pairs gathered from them.
@@ -49,7 +45,8 @@ pub struct Group {
     pub all: Gather,
 }
 
-// Up to two page numbers; in the place of one that is not there stands 0.
+// Up to two page numbers; in the place of one that is not there stands 0. No Option: the plan of an update reads the 0, the number of no
+// router, in a router to a page that is yet to be taken.
 #[derive(Clone, Copy)]
 pub struct Numbers {
     pub n: usize,
@@ -62,10 +59,7 @@ pub fn takes_in_place(s: &[u8], l: Limits, n: usize, w: u32, c: Change) -> bool
     requires { ExactBytes l s.now × Inside l s.now n × Fits c }
     ensures { result ≡ takes_in_place l.least w (change_of c) (page (pages_of l s.now) n) }
 {
-    if !parts::has_room(s, l, n, w, c) {
-        return false;
-    }
-    parts::has_enough(s, l, n, w, c)
+    parts::has_room(s, l, n, w, c) && parts::has_enough(s, l, n, w, c)
 }
 
 // "First of all, an index root whose wanted list is one router goes".
@@ -73,7 +67,7 @@ pub fn goes(s: &[u8], l: Limits, n: usize, live: usize) -> bool
     requires { ExactBytes l s.now × Inside l s.now n }
     ensures { result ≡ (leb 2 (page (pages_of l s.now) n).level && eqb live 1) }
 {
-    edit::both(2 <= parts::level_of(s, l, n), live == 1)
+    2 <= parts::level_of(s, l, n) && live == 1
 }
 
 // "Gather the wanted list. If the page isn't the root and the list has under 8, add the live entries of its neighbour under the same
@@ -85,38 +79,32 @@ pub fn gathered(s: &[u8], l: Limits, w: u32, a: Around, want: Gather) -> Group
 {
     let own = a.own;
     if want.n < l.merge {
-        if !a.rightmost {
-            let right = a.right;
+        if let Some(right) = a.right {
             let routers = Routers {
-                two: true,
                 first: own,
-                second: right,
+                second: Some(right),
             };
-            let all = gather::joined(want, parts::live_of(s, l, model::wide(right.value), w));
+            let all = gather::joined(want, parts::live_of(s, l, right.value as usize, w));
             return Group { routers, all };
         }
-        if !a.leftmost {
-            let left = a.left;
+        if let Some(left) = a.left {
             let routers = Routers {
-                two: true,
                 first: left,
-                second: own,
+                second: Some(own),
             };
-            let all = gather::joined(parts::live_of(s, l, model::wide(left.value), w), want);
+            let all = gather::joined(parts::live_of(s, l, left.value as usize, w), want);
             return Group { routers, all };
         }
     }
     let routers = Routers {
-        two: false,
         first: own,
-        second: own,
+        second: None,
     };
     Group { routers, all: want }
 }
 
 // "Up to 16 gathered entries fill one page; more fill two."
 pub fn fills(l: Limits, n: usize) -> usize
-    requires { Edition l }
     ensures { result ≡ pick (leb n (4 * l.least)) 1 2 }
 {
     if n <= l.full { 1 } else { 2 }

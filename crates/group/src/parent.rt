@@ -1,13 +1,12 @@
 // What the parent of a group has to change.
-ghost use Rattle.std.specs.Prelude.{◌≡◌, not, ◌^◌, ◌<◌};
-ghost use Rattle.model.specs.Basic.{any, pick};
-ghost use Rattle.model.specs.Limits.{Edition};
+ghost use Rattle.std.specs.Prelude.{◌≡◌, ◌^◌, ◌<◌};
+ghost use Rattle.model.specs.Basic.{any};
 ghost use Rattle.model.specs.Rules.{same_pair, exchange};
-ghost use Rattle.edit.specs.Change.{one, change_of};
+ghost use Rattle.edit.specs.Change.{change_of};
 ghost use Rattle.edit.specs.Fill.{Fitting};
 ghost use Rattle.gather.specs.Gather.{Good};
 ghost use Rattle.gather.specs.Kept.{Fits};
-ghost use Rattle.group.specs.Group.{routers_of, routers_now};
+ghost use Rattle.group.specs.Group.{routers_of, routers_now, RoutersFit, Apart};
 
 use crate::{Group, Numbers, Routers};
 use edit::Change;
@@ -15,102 +14,85 @@ use model::{Limits, Pair};
 
 // The routers that lead to the pages now used. "The first new low key is the lowest old one; the second is the second page's first key."
 pub fn routers_to(g: Group, l: Limits, first: usize, second: usize) -> Routers
-    requires { Edition l × Good g.all × Fitting g.routers.first × (first < 2 ^ 32) × (second < 2 ^ 32) }
+    requires { Good g.all × Fitting g.routers.first × (first < 2 ^ 32) × (second < 2 ^ 32) }
     ensures { (routers_of result ≡ routers_now l g first second)
-        × Fitting result.first × Fitting result.second }
+        × RoutersFit result }
 {
-    let key = g.routers.first.key;
-    let all = g.all;
-    let n = all.n;
+    let n = g.all.n;
     let one = Pair {
-        key,
+        key: g.routers.first.key,
         value: first as u32,
     };
     if n <= l.full {
         return Routers {
-            two: false,
             first: one,
-            second: one,
+            second: None,
         };
     }
-    let list = all.list;
+    let list = g.all.list;
     let k = (n + 1) / 2;
-    let x = list[k];
     let next = Pair {
-        key: x.key,
+        key: list[k].key,
         value: second as u32,
     };
     Routers {
-        two: true,
         first: one,
-        second: next,
+        second: Some(next),
     }
 }
 
+// As the definition has it by name, which `among` tests with.
 fn same_pair(x: Pair, y: Pair) -> bool
     ensures { result ≡ same_pair x y }
 {
-    edit::both(x.key == y.key, x.value == y.value)
+    x == y
 }
 
-// Whether x is none of these.
-fn not_among(x: Pair, rs: Routers) -> bool
-    ensures { result ≡ not (any (same_pair x) (routers_of rs)) }
+// Whether x is one of these.
+fn among(x: Pair, rs: Routers) -> bool
+    ensures { result ≡ any (same_pair x) (routers_of rs) }
 {
-    !edit::either(
-        same_pair(x, rs.first),
-        edit::both(rs.two, same_pair(x, rs.second)),
-    )
+    same_pair(x, rs.first)
+        || match rs.second {
+            Some(y) => same_pair(x, y),
+            None => false,
+        }
 }
 
-fn count(b: bool) -> u32
-    ensures { result ≡ one b }
+// How many of these are not among those, and the pairs: the first n of two.
+fn apart(rs: Routers, others: Routers) -> (u32, Pair, Pair)
+    ensures { Apart rs others result.0 result.1 result.2 }
 {
-    if b { 1 } else { 0 }
-}
-
-fn pick_key(b: bool, x: u32, y: u32) -> u32
-    ensures { result ≡ pick b x y }
-{
-    if b { x } else { y }
-}
-
-fn pick_pair(b: bool, x: Pair, y: Pair) -> Pair
-    ensures { result ≡ pick b x y }
-{
-    if b { x } else { y }
+    let x = rs.first;
+    let first = !among(x, others);
+    match rs.second {
+        Some(y) if !among(y, others) => { if first { (2, x, y) } else { (1, y, y) } }
+        _ => (if first { 1 } else { 0 }, x, x),
+    }
 }
 
 // "The parent's wanted list drops the old routers and takes one for each page now used; a router with the same low key and page stays
 // untouched."
 fn exchange(olds: Routers, news: Routers) -> Change
-    requires { Fitting news.first × Fitting news.second }
+    requires { RoutersFit news }
     ensures { (change_of result ≡ exchange (routers_of olds) (routers_of news)) × Fits result }
 {
-    let x = olds.first;
-    let y = olds.second;
-    let p = news.first;
-    let q = news.second;
-    let d1 = not_among(x, news);
-    let d2 = edit::both(olds.two, not_among(y, news));
-    let t1 = not_among(p, olds);
-    let t2 = edit::both(news.two, not_among(q, olds));
-    let take1 = pick_pair(t1, p, q);
+    let (drops, x, y) = apart(olds, news);
+    let (takes, take1, take2) = apart(news, olds);
     Change {
-        drops: count(d1) + count(d2),
-        drop1: pick_key(d1, x.key, y.key),
+        drops,
+        drop1: x.key,
         drop2: y.key,
-        takes: count(t1) + count(t2),
+        takes,
         take1,
-        take2: q,
+        take2,
     }
 }
 
 // What the parent of a group has to change when its pages are now these.
 pub fn parent_change(g: Group, l: Limits, u: Numbers) -> Change
-    requires { Edition l × Good g.all × Fitting g.routers.first × (u.first < 2 ^ 32) × (u.second < 2 ^ 32) }
+    requires { Good g.all × Fitting g.routers.first × (u.first < 2 ^ 32) × (u.second < 2 ^ 32) }
     ensures { (change_of result ≡ exchange (routers_of g.routers) (routers_now l g u.first u.second)) × Fits result }
 {
-    let rs = g.routers;
-    exchange(rs, routers_to(g, l, u.first, u.second))
+    exchange(g.routers, routers_to(g, l, u.first, u.second))
 }

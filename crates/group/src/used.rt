@@ -11,35 +11,31 @@ ghost use Rattle.group.specs.Numbers.{Numbered, numbers_of};
 use crate::{Numbers, Routers};
 use model::Limits;
 
-// x if a, and y if b.
+// x if a, and y if b. Two flags and two numbers, as `keep` in the contract has them.
 fn chosen(a: bool, x: usize, b: bool, y: usize) -> Numbers
     ensures { Numbered result (keep a x (keep b y [])) }
 {
-    if a {
-        if b {
-            return Numbers {
-                n: 2,
-                first: x,
-                second: y,
-            };
-        }
-        return Numbers {
+    match (a, b) {
+        (true, true) => Numbers {
+            n: 2,
+            first: x,
+            second: y,
+        },
+        (true, false) => Numbers {
             n: 1,
             first: x,
             second: 0,
-        };
-    }
-    if b {
-        return Numbers {
+        },
+        (false, true) => Numbers {
             n: 1,
             first: y,
             second: 0,
-        };
-    }
-    Numbers {
-        n: 0,
-        first: 0,
-        second: 0,
+        },
+        (false, false) => Numbers {
+            n: 0,
+            first: 0,
+            second: 0,
+        },
     }
 }
 
@@ -48,11 +44,15 @@ pub fn active_ones(s: &[u8], l: Limits, w: u32, rs: Routers) -> Numbers
     requires { ExactBytes l s.now × Routed l s.now rs }
     ensures { Numbered result (actives w (pages_of l s.now) (routers_of rs)) }
 {
-    let x = model::wide(rs.first.value);
-    let y = model::wide(rs.second.value);
+    let x = rs.first.value as usize;
     let a = parts::is_active(s, l, x, w);
-    let b = parts::is_active(s, l, y, w);
-    chosen(a, x, edit::both(rs.two, b), y)
+    match rs.second {
+        Some(r) => {
+            let y = r.value as usize;
+            chosen(a, x, parts::is_active(s, l, y, w), y)
+        }
+        None => chosen(a, x, false, 0),
+    }
 }
 
 // The lowest two free pages.
@@ -73,13 +73,11 @@ fn first_two(u: Numbers, f: Numbers) -> Numbers
     requires { Numbered u (numbers_of u) × Numbered f (numbers_of f) }
     ensures { Numbered result (take 2 (numbers_of u ++ numbers_of f)) }
 {
-    if u.n == 0 {
-        return f;
+    match u.n {
+        0 => f,
+        1 => chosen(true, u.first, 1 <= f.n, f.first),
+        _ => u,
     }
-    if u.n == 1 {
-        return chosen(true, u.first, 1 <= f.n, f.first);
-    }
-    u
 }
 
 // "The pages used are the active ones among those gathered, left first, then the lowest free pages": the first two of them.

@@ -5,7 +5,7 @@
 pub mod naming;
 pub mod plainly;
 
-ghost use Rattle.std.specs.Prelude.{◌≡◌};
+ghost use Rattle.std.specs.Prelude.{◌≡◌, ℕ, List};
 ghost use Rattle.model.specs.Layout.{bit};
 ghost use Rattle.model.specs.State.{state_numbers};
 ghost use Rattle.model.specs.Calls.{looked_number, looked_found, looked_value};
@@ -13,8 +13,19 @@ ghost use Rattle.model.specs.Lent.{leaving, fresh_lent};
 ghost use Rattle.model.specs.Any.{judged_any, open_any, insert_any, delete_any, commit_any, abandon_any, return_any, prune_any, lookup_any};
 ghost use Rattle.model.specs.Any.{range_any, life_any, difference_any, visits_any, state_any};
 ghost use Rattle.model.specs.Convert.{convert_lent};
+ghost use Rattle.model.specs.Refusals.{number_in, looked_in, listed_in};
 
-use model::Looked;
+use model::{ListRefusal, Refusal};
+
+// What a call gives that is done or refused.
+fn number(r: Result<(), Refusal>) -> u32
+    ensures { result ≡ number_in r }
+{
+    match r {
+        Ok(()) => 0,
+        Err(e) => e.number(),
+    }
+}
 
 // Makes a fresh store of edition 1.
 #[unsafe(no_mangle)]
@@ -22,7 +33,7 @@ pub extern "C" fn rcst_fresh(store: &mut [u8]) -> u32
     ensures number { result ≡ (fresh_lent 4 store.old).number }
     ensures bytes { store.new ≡ (fresh_lent 4 store.old).store }
 {
-    store::fresh(store)
+    number(store::fresh(store))
 }
 
 // Makes a fresh store of edition 2.
@@ -31,7 +42,7 @@ pub extern "C" fn rcst_fresh_second(store: &mut [u8]) -> u32
     ensures number { result ≡ (fresh_lent 8 store.old).number }
     ensures bytes { store.new ≡ (fresh_lent 8 store.old).store }
 {
-    store::fresh_second(store)
+    number(store::fresh_second(store))
 }
 
 // Judges a store; the lowest broken rule goes to `rule`.
@@ -40,9 +51,12 @@ pub extern "C" fn rcst_check(store: &[u8], rule: &mut u32) -> u32
     ensures number { result ≡ (judged_any store.now).number }
     ensures broken { rule.new ≡ (judged_any store.now).rule }
 {
-    let v = judge::check(store);
-    *rule = v.rule;
-    v.number
+    let (broken, number) = match judge::check(store) {
+        Ok(()) => (0, 0),
+        Err(fault) => (fault.rule(), fault.number()),
+    };
+    *rule = broken;
+    number
 }
 
 // Opens an update.
@@ -50,7 +64,7 @@ pub extern "C" fn rcst_check(store: &[u8], rule: &mut u32) -> u32
 pub extern "C" fn rcst_open(store: &mut [u8]) -> u32
     ensures { leaving result store.new ≡ open_any store.old }
 {
-    calls::open(store)
+    number(calls::open(store))
 }
 
 // Inserts a setting in the open update.
@@ -58,7 +72,7 @@ pub extern "C" fn rcst_open(store: &mut [u8]) -> u32
 pub extern "C" fn rcst_insert(store: &mut [u8], key: u32, value: u32) -> u32
     ensures { leaving result store.new ≡ insert_any store.old key value }
 {
-    calls::insert(store, key, value)
+    number(calls::insert(store, key, value))
 }
 
 // Deletes a setting in the open update.
@@ -66,7 +80,7 @@ pub extern "C" fn rcst_insert(store: &mut [u8], key: u32, value: u32) -> u32
 pub extern "C" fn rcst_delete(store: &mut [u8], key: u32) -> u32
     ensures { leaving result store.new ≡ delete_any store.old key }
 {
-    calls::delete(store, key)
+    number(calls::delete(store, key))
 }
 
 // Commits the open update.
@@ -74,7 +88,7 @@ pub extern "C" fn rcst_delete(store: &mut [u8], key: u32) -> u32
 pub extern "C" fn rcst_commit(store: &mut [u8]) -> u32
     ensures { leaving result store.new ≡ commit_any store.old }
 {
-    calls::commit(store)
+    number(calls::commit(store))
 }
 
 // Abandons the open update.
@@ -82,7 +96,7 @@ pub extern "C" fn rcst_commit(store: &mut [u8]) -> u32
 pub extern "C" fn rcst_abandon(store: &mut [u8]) -> u32
     ensures { leaving result store.new ≡ abandon_any store.old }
 {
-    calls::abandon(store)
+    number(calls::abandon(store))
 }
 
 // Returns to a committed version in the open update.
@@ -90,7 +104,7 @@ pub extern "C" fn rcst_abandon(store: &mut [u8]) -> u32
 pub extern "C" fn rcst_return(store: &mut [u8], version: u32) -> u32
     ensures { leaving result store.new ≡ return_any store.old version }
 {
-    calls::return_to(store, version)
+    number(calls::return_to(store, version))
 }
 
 // Makes a committed version the oldest, and drops what ended at or before it.
@@ -98,7 +112,7 @@ pub extern "C" fn rcst_return(store: &mut [u8], version: u32) -> u32
 pub extern "C" fn rcst_prune(store: &mut [u8], version: u32) -> u32
     ensures { leaving result store.new ≡ prune_any store.old version }
 {
-    calls::prune(store, version)
+    number(calls::prune(store, version))
 }
 
 // Converts a store of edition 1 into one of edition 2.
@@ -106,37 +120,36 @@ pub extern "C" fn rcst_prune(store: &mut [u8], version: u32) -> u32
 pub extern "C" fn rcst_convert(source: &[u8], target: &mut [u8]) -> u32
     ensures { leaving result target.new ≡ convert_lent source.now target.old }
 {
-    convert::convert(source, target)
+    number(convert::convert(source, target))
 }
 
-fn number_of(r: Looked) -> u32
-    ensures { result ≡ looked_number r }
+// A lookup's answer, in the caller's two numbers.
+fn looked(r: Result<Option<u32>, Refusal>, found: &mut u32, value: &mut u32) -> u32
+    ensures number { result ≡ looked_number (looked_in r) }
+    ensures alive { found.new ≡ bit (looked_found (looked_in r)) }
+    ensures setting { value.new ≡ looked_value (looked_in r) }
 {
-    match r {
-        Looked::Value(_) => 0,
-        Looked::Absent => 0,
-        Looked::Refused(n) => n,
-    }
+    let (alive, setting, number) = match r {
+        Ok(Some(x)) => (1, x, 0),
+        Ok(None) => (0, 0, 0),
+        Err(e) => (0, 0, e.number()),
+    };
+    *found = alive;
+    *value = setting;
+    number
 }
 
-fn found_of(r: Looked) -> u32
-    ensures { result ≡ bit (looked_found r) }
+// How many a list tells, in the caller's number.
+fn told(r: Result<usize, ListRefusal>, count: &mut usize) -> u32
+    ensures number { (ns : List ℕ) → result ≡ (listed_in r ns).number }
+    ensures counted { (ns : List ℕ) → count.new ≡ (listed_in r ns).count }
 {
-    match r {
-        Looked::Value(_) => 1,
-        Looked::Absent => 0,
-        Looked::Refused(_) => 0,
-    }
-}
-
-fn value_of(r: Looked) -> u32
-    ensures { result ≡ looked_value r }
-{
-    match r {
-        Looked::Value(x) => x,
-        Looked::Absent => 0,
-        Looked::Refused(_) => 0,
-    }
+    let (n, number) = match r {
+        Ok(n) => (n, 0),
+        Err(e) => (e.count(), e.number()),
+    };
+    *count = n;
+    number
 }
 
 // Looks a key up at a version: whether it is alive goes to `found`, its value to `value`.
@@ -152,10 +165,7 @@ pub extern "C" fn rcst_lookup(
     ensures alive { found.new ≡ bit (looked_found (lookup_any store.now key version)) }
     ensures setting { value.new ≡ looked_value (lookup_any store.now key version) }
 {
-    let r = calls::lookup(store, key, version);
-    *found = found_of(r);
-    *value = value_of(r);
-    number_of(r)
+    looked(calls::lookup(store, key, version), found, value)
 }
 
 // The settings from low to high at a version go to `list`, their number to `count`.
@@ -172,9 +182,7 @@ pub extern "C" fn rcst_range(
     ensures settings { count.new ≡ (range_any store.now low high version list.old).count }
     ensures written { list.new ≡ (range_any store.now low high version list.old).list }
 {
-    let r = calls::range(store, low, high, version, list);
-    *count = r.count;
-    r.number
+    told(calls::range(store, low, high, version, list), count)
 }
 
 // The numbers of the pages that a lookup of a key at a version visits, from the root down, go to `pages`, their number to `count`.
@@ -190,9 +198,7 @@ pub extern "C" fn rcst_visits(
     ensures visited { count.new ≡ (visits_any store.now key version pages.old).count }
     ensures written { pages.new ≡ (visits_any store.now key version pages.old).list }
 {
-    let r = calls::visits(store, key, version, pages);
-    *count = r.count;
-    r.number
+    told(calls::visits(store, key, version, pages), count)
 }
 
 // What differs from version `old` to version `new` goes to `list`, the number of differences to `count`.
@@ -208,9 +214,7 @@ pub extern "C" fn rcst_difference(
     ensures differences { count.new ≡ (difference_any store.now old new list.old).count }
     ensures written { list.new ≡ (difference_any store.now old new list.old).list }
 {
-    let r = calls::difference(store, old, new, list);
-    *count = r.count;
-    r.number
+    told(calls::difference(store, old, new, list), count)
 }
 
 // The stretches of committed versions in which a key held one value go to `list`, their number to `count`.
@@ -220,34 +224,32 @@ pub extern "C" fn rcst_life(store: &[u8], key: u32, list: &mut [u32], count: &mu
     ensures stretches { count.new ≡ (life_any store.now key list.old).count }
     ensures written { list.new ≡ (life_any store.now key list.old).list }
 {
-    let r = calls::life(store, key, list);
-    *count = r.count;
-    r.number
-}
-
-fn flag(b: bool) -> u32
-    ensures { result ≡ bit b }
-{
-    if b { 1 } else { 0 }
+    told(calls::life(store, key, list), count)
 }
 
 // What a store tells of itself goes to `state`: page count, current version, 1 if an update is open, roots used, edition, free pages,
-// oldest
-// version.
+// oldest version.
 #[unsafe(no_mangle)]
 pub extern "C" fn rcst_state(store: &[u8], state: &mut [u32; 7]) -> u32
     ensures number { result ≡ (state_any store.now).number }
     ensures told { state.new ≡ state_numbers (state_any store.now) }
 {
-    let t = calls::state(store);
-    *state = [
-        t.pages,
-        t.current,
-        flag(t.opened),
-        t.roots,
-        t.edition,
-        t.free,
-        t.oldest,
-    ];
-    t.number
+    match calls::state(store) {
+        Ok(t) => {
+            *state = [
+                t.pages,
+                t.current,
+                u32::from(t.opened),
+                t.roots,
+                t.edition,
+                t.free,
+                t.oldest,
+            ];
+            0
+        }
+        Err(e) => {
+            *state = [0; 7];
+            e.number()
+        }
+    }
 }

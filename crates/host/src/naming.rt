@@ -9,8 +9,6 @@ ghost use Rattle.model.specs.Kinds.{wrong_row};
 ghost use Rattle.model.specs.Named.{insert_named, delete_named, lookup_named, kind_named, range_named, viewed};
 ghost use Rattle.model.specs.Lent.{leaving};
 
-use model::Looked;
-
 // The numbers of the kinds in a table.
 const WHOLE: u32 = 0;
 
@@ -31,7 +29,7 @@ pub extern "C" fn rcst_kinds_check(table: &[u32]) -> usize
 pub extern "C" fn rcst_named_insert(store: &mut [u8], table: &[u32], key: u32, value: u32) -> u32
     ensures { leaving result store.new ≡ insert_named table.now store.old key value }
 {
-    named::insert(store, table, key, value)
+    crate::number(named::insert(store, table, key, value))
 }
 
 // Deletes a setting with a known key: 17, or what the store gives.
@@ -39,7 +37,7 @@ pub extern "C" fn rcst_named_insert(store: &mut [u8], table: &[u32], key: u32, v
 pub extern "C" fn rcst_named_delete(store: &mut [u8], table: &[u32], key: u32) -> u32
     ensures { leaving result store.new ≡ delete_named table.now store.old key }
 {
-    named::delete(store, table, key)
+    crate::number(named::delete(store, table, key))
 }
 
 // Opens a viewer on a store and one version.
@@ -47,18 +45,7 @@ pub extern "C" fn rcst_named_delete(store: &mut [u8], table: &[u32], key: u32) -
 pub extern "C" fn rcst_view_open(store: &[u8], version: u32) -> u32
     ensures { result ≡ viewed store.now version }
 {
-    viewer::opens(store, version)
-}
-
-// A lookup's answer, in the caller's two numbers.
-fn told(r: Looked, found: &mut u32, value: &mut u32) -> u32
-    ensures number { result ≡ looked_number r }
-    ensures alive { found.new ≡ bit (looked_found r) }
-    ensures setting { value.new ≡ looked_value r }
-{
-    *found = crate::found_of(r);
-    *value = crate::value_of(r);
-    crate::number_of(r)
+    crate::number(viewer::opens(store, version))
 }
 
 // What a viewer shows of a key, of any kind.
@@ -75,7 +62,7 @@ pub extern "C" fn rcst_view_value(
     ensures alive { found.new ≡ bit (looked_found (lookup_named table.now store.now key version)) }
     ensures setting { value.new ≡ looked_value (lookup_named table.now store.now key version) }
 {
-    told(named::lookup(store, table, key, version), found, value)
+    crate::looked(named::lookup(store, table, key, version), found, value)
 }
 
 // What a viewer shows of a key that is a whole number.
@@ -92,7 +79,7 @@ pub extern "C" fn rcst_view_whole(
     ensures alive { found.new ≡ bit (looked_found (kind_named 0 table.now store.now key version)) }
     ensures setting { value.new ≡ looked_value (kind_named 0 table.now store.now key version) }
 {
-    told(
+    crate::looked(
         named::lookup_kind(store, table, WHOLE, key, version),
         found,
         value,
@@ -113,7 +100,7 @@ pub extern "C" fn rcst_view_switch(
     ensures alive { found.new ≡ bit (looked_found (kind_named 1 table.now store.now key version)) }
     ensures setting { value.new ≡ looked_value (kind_named 1 table.now store.now key version) }
 {
-    told(
+    crate::looked(
         named::lookup_kind(store, table, SWITCH, key, version),
         found,
         value,
@@ -138,8 +125,9 @@ pub extern "C" fn rcst_view_level(
         (looked_value (kind_named 2 table.now store.now key version)) }
 {
     let r = named::lookup_kind(store, table, LEVEL, key, version);
-    *level = kinds::float_of(crate::value_of(r));
-    told(r, found, bits)
+    let number = crate::looked(r, found, bits);
+    *level = kinds::float_of(*bits);
+    number
 }
 
 // The settings from low to high that a viewer shows, if each has a known key, go to `list`, their number to `count`.
@@ -159,7 +147,5 @@ pub extern "C" fn rcst_view_range(
     ensures written { list.new ≡ (range_named table.now store.now low high version
         list.old).list }
 {
-    let r = named::range(store, table, low, high, version, list);
-    *count = r.count;
-    r.number
+    crate::told(named::range(store, table, low, high, version, list), count)
 }

@@ -5,7 +5,19 @@ ghost use Rattle.model.specs.Layout.{bit};
 ghost use Rattle.model.specs.Calls.{looked_number, looked_found, looked_value};
 ghost use Rattle.plain.specs.Guard.{is_state, is_lent, left_lent, insert_guarded, delete_guarded, commit_guarded, abandon_guarded, return_guarded};
 ghost use Rattle.plain.specs.Guard.{prune_guarded, lookup_guarded, range_guarded, difference_guarded, life_guarded, OpensGuarded, Spared};
-ghost use Rattle.plain.specs.Guard.{StateAgain, LentAgain};
+ghost use Rattle.plain.specs.Guard.{StateAgain, LentAgain, list_number_in};
+
+use model::ListRefusal;
+
+// The number of a call that may lack room for its items.
+fn list_number(r: Result<(), ListRefusal>) -> u32
+    ensures { result ≡ list_number_in r }
+{
+    match r {
+        Ok(()) => 0,
+        Err(refusal) => refusal.number(),
+    }
+}
 
 // Opens an update.
 #[unsafe(no_mangle)]
@@ -14,7 +26,7 @@ pub extern "C" fn rcst_plain_open(state: &mut [u32; 5]) -> u32
     ensures spared { Spared (is_state state.old) state.old state.new }
     ensures again { StateAgain state.old state.new }
 {
-    plain::lent::open(state)
+    crate::number(plain::lent::open(state))
 }
 
 // Inserts a setting in the open update.
@@ -31,7 +43,7 @@ pub extern "C" fn rcst_plain_insert(
     ensures untouched { Spared (is_lent items.old state.old) items.old items.new }
     ensures again { LentAgain items.old state.old items.new state.new }
 {
-    plain::lent::insert(items, state, key, value)
+    list_number(plain::lent::insert(items, state, key, value))
 }
 
 // Deletes a setting in the open update.
@@ -43,7 +55,7 @@ pub extern "C" fn rcst_plain_delete(items: &mut [u32], state: &mut [u32; 5], key
     ensures untouched { Spared (is_lent items.old state.old) items.old items.new }
     ensures again { LentAgain items.old state.old items.new state.new }
 {
-    plain::lent::delete(items, state, key)
+    crate::number(plain::lent::delete(items, state, key))
 }
 
 // Commits the open update.
@@ -53,7 +65,7 @@ pub extern "C" fn rcst_plain_commit(items: &[u32], state: &mut [u32; 5]) -> u32
     ensures spared { Spared (is_lent items.now state.old) state.old state.new }
     ensures again { LentAgain items.now state.old items.now state.new }
 {
-    plain::lent::commit(items, state)
+    crate::number(plain::lent::commit(items, state))
 }
 
 // Abandons the open update.
@@ -64,7 +76,7 @@ pub extern "C" fn rcst_plain_abandon(items: &mut [u32], state: &mut [u32; 5]) ->
     ensures untouched { Spared (is_lent items.old state.old) items.old items.new }
     ensures again { LentAgain items.old state.old items.new state.new }
 {
-    plain::lent::abandon(items, state)
+    crate::number(plain::lent::abandon(items, state))
 }
 
 // Returns to a committed version.
@@ -76,7 +88,7 @@ pub extern "C" fn rcst_plain_return(items: &mut [u32], state: &mut [u32; 5], ver
     ensures untouched { Spared (is_lent items.old state.old) items.old items.new }
     ensures again { LentAgain items.old state.old items.new state.new }
 {
-    plain::lent::return_to(items, state, version)
+    list_number(plain::lent::return_to(items, state, version))
 }
 
 // Drops what ended at or before a committed version: the versions below it are not kept.
@@ -88,7 +100,7 @@ pub extern "C" fn rcst_plain_prune(items: &mut [u32], state: &mut [u32; 5], vers
     ensures untouched { Spared (is_lent items.old state.old) items.old items.new }
     ensures again { LentAgain items.old state.old items.new state.new }
 {
-    plain::lent::prune(items, state, version)
+    crate::number(plain::lent::prune(items, state, version))
 }
 
 // Looks a key up at a version: whether it is alive goes to `found`, its value to `value`.
@@ -105,10 +117,11 @@ pub extern "C" fn rcst_plain_lookup(
     ensures alive { found.new ≡ bit (looked_found (lookup_guarded items.now state.now key version)) }
     ensures setting { value.new ≡ looked_value (lookup_guarded items.now state.now key version) }
 {
-    let r = plain::lent::lookup(items, state, key, version);
-    *found = crate::found_of(r);
-    *value = crate::value_of(r);
-    crate::number_of(r)
+    crate::looked(
+        plain::lent::lookup(items, state, key, version),
+        found,
+        value,
+    )
 }
 
 // The settings from low to high at a version go to `list`, their number to `count`.
@@ -128,9 +141,10 @@ pub extern "C" fn rcst_plain_range(
     ensures written { list.new ≡ (range_guarded items.now state.now low high version
         list.old).list }
 {
-    let r = plain::lent::range(items, state, low, high, version, list);
-    *count = r.count;
-    r.number
+    crate::told(
+        plain::lent::range(items, state, low, high, version, list),
+        count,
+    )
 }
 
 // What differs from version `old` to version `new` goes to `list`, the number of differences to `count`.
@@ -149,9 +163,7 @@ pub extern "C" fn rcst_plain_difference(
     ensures written { list.new ≡ (difference_guarded items.now state.now old new
         list.old).list }
 {
-    let r = plain::lent::difference(items, state, old, new, list);
-    *count = r.count;
-    r.number
+    crate::told(plain::lent::difference(items, state, old, new, list), count)
 }
 
 // The stretches of committed versions in which a key held one value go to `list`, their number to `count`.
@@ -167,7 +179,5 @@ pub extern "C" fn rcst_plain_life(
     ensures found { count.new ≡ (life_guarded items.now state.now key list.old).count }
     ensures written { list.new ≡ (life_guarded items.now state.now key list.old).list }
 {
-    let r = plain::lent::life_of(items, state, key, list);
-    *count = r.count;
-    r.number
+    crate::told(plain::lent::life_of(items, state, key, list), count)
 }

@@ -8,68 +8,28 @@ ghost use Rattle.std.specs.Prelude.{◌≡◌, true, [], ◌∷◌, ◌≤◌, �
 ghost use Rattle.model.specs.Basic.{pick};
 ghost use Rattle.model.specs.Entry.{alive};
 ghost use Rattle.model.specs.Walk.{lookup, key_limit};
-ghost use Rattle.model.specs.Limits.{Edition};
 ghost use Rattle.model.specs.Layout.{decode};
 ghost use Rattle.model.specs.Judged.{is_sound};
-ghost use Rattle.model.specs.Calls.{looked_at};
 ghost use Rattle.model.specs.Told.{told_by};
 ghost use Rattle.model.specs.Life.{stretch_numbers, life_of, life};
 ghost use Rattle.model.specs.Lent.{listed};
 ghost use Rattle.model.specs.Inner.{Lasts};
 ghost use Rattle.model.specs.Telling.{written, Space, Gathers};
-ghost use Rattle.walk.specs.Counted.{with_list};
+ghost use Rattle.model.specs.Refusals.{found_in, listed_in};
 ghost use Rattle.walk.specs.Sure.{Walkable};
 ghost use Rattle.model.specs.Still.{stretches};
-ghost use Rattle.life.specs.Lived.{is_value, is_absent, same_as, shown};
+ghost use Rattle.life.specs.Lived.{shown};
 
-use model::{Limits, Looked, Stretch};
-use walk::Counted;
-
-// "End 1,048,575 means alive."
-const ALIVE: u32 = 1048575;
-
-fn is_value(b: Looked, x: u32) -> bool
-    ensures { result ≡ is_value x b }
-{
-    match b {
-        Looked::Value(y) => x == y,
-        Looked::Absent => false,
-        Looked::Refused(_) => false,
-    }
-}
-
-fn is_absent(b: Looked) -> bool
-    ensures { result ≡ is_absent b }
-{
-    match b {
-        Looked::Value(_) => false,
-        Looked::Absent => true,
-        Looked::Refused(_) => false,
-    }
-}
-
-// Whether two lookups answer the same.
-fn same(a: Looked, b: Looked) -> bool
-    ensures { result ≡ same_as a b }
-{
-    match a {
-        Looked::Value(x) => is_value(b, x),
-        Looked::Absent => is_absent(b),
-        Looked::Refused(_) => false,
-    }
-}
+use model::{Limits, ListRefusal, Stretch};
 
 // The first version behind v at which a lookup answers otherwise than at v, or the first behind c.
-fn change_after(s: &[u8], l: Limits, key: u32, v: u32, c: u32, was: Looked) -> u32
+fn change_after(s: &[u8], l: Limits, key: u32, v: u32, c: u32, was: Option<u32>) -> u32
     requires { Walkable l s.now c × (key < key_limit) × ((decode l.least s.now).oldest ≤ v) × (v ≤ c)
-        × (was ≡ looked_at (lookup (decode l.least s.now) key v)) }
+        × (found_in was ≡ lookup (decode l.least s.now) key v) }
     ensures { Lasts c (lookup (decode l.least s.now) key) v result }
 {
     let mut u = holding::answer_until(s, l, key, v, c + 1);
-    while u <= c {
-        if !same(was, walk::lookup(s, l, key, u)) {
-            return u;
-        }
+    while u <= c && walk::lookup(s, l, key, u) == was {
         u = holding::answer_until(s, l, key, u, c + 1);
     }
     u
@@ -79,10 +39,7 @@ fn change_after(s: &[u8], l: Limits, key: u32, v: u32, c: u32, was: Looked) -> u
 fn shown_end(c: u32, r: u32) -> u32
     ensures { result ≡ pick (ltb c r) alive r }
 {
-    if c < r {
-        return ALIVE;
-    }
-    r
+    if c < r { page::ALIVE } else { r }
 }
 
 // A stretch behind the first k of a list.
@@ -98,26 +55,26 @@ fn put(list: &mut [u32], k: usize, a: Stretch, write: bool)
 }
 
 // What an answer tells that is shown from v up to e, behind the first k of a list; gives how many stretches there are then.
-fn tell(list: &mut [u32], k: usize, v: u32, e: u32, answer: Looked, write: bool) -> usize
-    requires { Space stretches write list.old k (shown v e answer) }
-    ensures { Gathers stretches write list.old list.new k result (shown v e answer) }
+fn tell(list: &mut [u32], k: usize, v: u32, e: u32, answer: Option<u32>, write: bool) -> usize
+    requires { Space stretches write list.old k (shown v e (found_in answer)) }
+    ensures { Gathers stretches write list.old list.new k result (shown v e (found_in answer)) }
 {
     match answer {
-        Looked::Value(x) => {
+        Some(value) => {
             let a = Stretch {
                 start: v,
                 end: e,
-                value: x,
+                value,
             };
             put(list, k, a, write);
             k + 1
         }
-        Looked::Absent => k,
-        Looked::Refused(_) => k,
+        None => k,
     }
 }
 
-// The stretches from version old up to version c, into a list or only counted; gives how many there are.
+// The stretches from version old up to version c, into a list or only counted; gives how many there are. A flag says which, and no
+// closure, since one contract says of both passes what is gathered (model/specs/Telling).
 fn tell_all(s: &[u8], l: Limits, key: u32, old: u32, c: u32, list: &mut [u32], write: bool) -> usize
     requires { Walkable l s.now c × (key < key_limit)
         × Space stretches write list.old 0 (life_of old c (lookup (decode l.least s.now) key))
@@ -138,22 +95,16 @@ fn tell_all(s: &[u8], l: Limits, key: u32, old: u32, c: u32, list: &mut [u32], w
 
 // The life of a key, and what it leaves in the caller's list: the stretches are counted before any is written, so that 14 leaves the
 // list untouched.
-pub fn life(s: &[u8], l: Limits, key: u32, list: &mut [u32]) -> Counted
-    requires { Edition l × (is_sound l.least s.now ≡ true) × (key < key_limit) }
-    ensures { with_list result list.new
+pub fn life(s: &[u8], l: Limits, key: u32, list: &mut [u32]) -> Result<usize, ListRefusal>
+    requires { (is_sound l.least s.now ≡ true) × (key < key_limit) }
+    ensures { listed_in result list.new
         ≡ listed list.old (told_by stretch_numbers 3 0 (length list.old) (life (decode l.least s.now) key)) }
 {
     let h = store::header(s, l);
     let found = tell_all(s, l, key, h.oldest, h.current, list, false);
     if list.len() < 3 * found {
-        return Counted {
-            number: 14,
-            count: found,
-        };
+        return Err(ListRefusal::TooShort(found));
     }
     tell_all(s, l, key, h.oldest, h.current, list, true);
-    Counted {
-        number: 0,
-        count: found,
-    }
+    Ok(found)
 }

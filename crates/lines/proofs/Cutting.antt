@@ -1,24 +1,10 @@
 -- Laws of cutting a text at its marks. Assumes nothing.
-use Rattle.std.proofs.Common.{◌≡◌, ℕ, suc, ◌+◌, ◌-◌, ◌<◌, ◌≤◌, Bool, true, false, eqb, List, [], ◌∷◌, length, get_or, take, drop, refl, add-one, arith, length-drop, drop_of_length-le, take_all, drop-cons, eq-eqb, ne_eqb}
+use Rattle.std.proofs.Common.{◌≡◌, ℕ, suc, ◌+◌, ◌-◌, ◌<◌, ◌≤◌, Bool, true, false, eqb, List, [], ◌∷◌, length, take, drop, refl, add-one, arith, length-drop, take_all, le-ltb, lt-ltb, Option, Some, None, MatchOption, ltb, cond, not}
+use native.Mathlib.Decide.{dec_lt}
+use Rattle.std.specs.List.{position_or_len}
 use Rattle.lines.specs.declared.Command.TheVariants.{Bad}
 use Rattle.lines.specs.Console.{cut, in_front, words, spoken}
 use Rattle.lines.specs.Words.{until, until_by}
-
-until-step : (mark : ℕ) (l : List ℕ) (k : ℕ) → k < length l
-    → until mark (drop k l) ≡ until_by (eqb (get_or l k 0) mark) (until mark (drop (k + 1) l))
-unfolding until
-until-step mark l k h = rw (add-one, drop-cons l k 0 h)
-
-pub until-hit : (mark : ℕ) (l : List ℕ) (k : ℕ) → k < length l → get_or l k 0 ≡ mark → until mark (drop k l) ≡ 0
-until-hit mark l k h e = rw (until-step mark l k h, eq-eqb (get_or l k 0) mark e)
-
-pub until-miss : (mark : ℕ) (l : List ℕ) (k : ℕ) → k < length l → (get_or l k 0 ≡ mark → ⊥)
-    → until mark (drop k l) ≡ suc (until mark (drop (k + 1) l))
-until-miss mark l k h e = rw (until-step mark l k h, ne_eqb (get_or l k 0) mark e)
-
-pub until_end : (mark : ℕ) (l : List ℕ) (k : ℕ) → length l ≤ k → until mark (drop k l) ≡ 0
-unfolding until
-until_end mark l k h = rw (drop_of_length-le l h)
 
 until_by-le : (t : Bool) {n m : ℕ} → n ≤ m → until_by t n ≤ suc m
 until_by-le true h = omega arith
@@ -28,6 +14,26 @@ pub until-le : (mark : ℕ) (l : List ℕ) → until mark l ≤ length l
 unfolding until
 until-le mark [] = omega arith
 until-le mark (b ∷ bs) = until_by-le (eqb b mark) (until-le mark bs)
+
+position-by : (t : Bool) {m n : ℕ} → m ≡ n → cond (not t) (1 + m) 0 ≡ until_by t n
+position-by true e = refl
+position-by false e = omega (arith, e)
+
+until-position : (mark : ℕ) (l : List ℕ) → position_or_len (λ b. eqb b mark) l ≡ until mark l
+unfolding until
+until-position mark [] = refl
+until-position mark (b ∷ bs) = position-by (eqb b mark) (until-position mark bs)
+
+-- what a search for the mark gives
+pub found : (mark : ℕ) (l : List ℕ) (r : Option ℕ)
+    → r ≡ cond (ltb (position_or_len (λ b. eqb b mark) l) (length l)) (Some (position_or_len (λ b. eqb b mark) l)) None
+    → MatchOption r (until mark l ≡ length l) (λ e. (e ≡ until mark l) × (e < length l))
+found mark l r e = rw (e, until-position mark l) (by (dec_lt (until mark l) (length l))) where
+  by : Dec (until mark l < length l)
+      → MatchOption (cond (ltb (until mark l) (length l)) (Some (until mark l)) None) (until mark l ≡ length l)
+      (λ e. (e ≡ until mark l) × (e < length l))
+  by (yes h) = rw (lt-ltb (until mark l) (length l) h) (refl, h)
+  by (no h) = rw (le-ltb (until mark l) (length l) (omega arith)) (omega (arith, until-le mark l))
 
 module _ (mark b : ℕ) (bs : List ℕ) (behind : List (List ℕ)) where
   -- a text that has a mark: what stands before the first one is the first piece

@@ -1,11 +1,12 @@
 -- Laws of what is kept of a line. Assumes nothing.
-use Rattle.std.proofs.Common.{◌≡◌, ℕ, zero, suc, ◌+◌, ◌-◌, ◌<◌, ◌≤◌, min, true, false, List, [], ◌∷◌, ◌++◌, length, get_or, take, set, sym, refl, ap, ◌∙◌, append_assoc, add-suc, add-one, arith, take_all, take-suc, take-suc-set, le-ltb, lt-ltb}
+use Rattle.std.proofs.Common.{◌≡◌, ℕ, zero, suc, ◌+◌, ◌-◌, ◌<◌, ◌≤◌, min, true, false, List, [], ◌∷◌, ◌++◌, length, take, sym, refl, ap, ◌∙◌, arith, take_all, length-take-le, le-ltb, lt-ltb, Some}
 use lib.Seq.{take-append-add}
 use native.Mathlib.Decide.{dec_le}
-use native.Mathlib.Nat.{min-eq_left, min-eq_right}
+use native.Mathlib.Nat.{min-eq_left, min-eq_right, min-le_left}
+use borrow.Rule.Slice.PartMut.{put_mid}
+use Rattle.std.proofs.lemmas.Slice.{take-put_mid}
 use Rattle.lines.specs.Words.{until}
 use Rattle.lines.specs.declared.Line.{Line}
-use Rattle.lines.specs.declared.Heard.TheVariants.{Whole}
 use Rattle.lines.specs.Reading.{Reading, kept, step_by, step_of, last_by}
 
 take-least : (m : ℕ) (s : List ℕ) → take (min (length s) m) s ≡ take m s
@@ -25,11 +26,15 @@ take_again zero t s = refl
 take_again (suc n) [] s = refl
 take_again (suc n) (x ∷ xs) s = ap (λ (l : List ℕ). x ∷ l) (take_again n xs s)
 
--- one byte more, at place k + i of b
-pub kept_more : (b t s : List ℕ) (k i : ℕ) → k + i < length b → i < length s → take (k + i) b ≡ t ++ take i s
-    → take (k + (i + 1)) (set b (k + i) (get_or s i 0)) ≡ t ++ take (i + 1) s
-kept_more b t s k i h g e =
-    rw (add-one, add-suc, take-suc-set b (k + i) (get_or s i 0) h, take-suc s i 0 g, e) (append_assoc t (take i s) (get_or s i 0 ∷ []))
+-- as much of s as there is room for, laid behind the first k bytes of b
+pub kept_laid : (b m s : List ℕ) (k n : ℕ) → length b ≡ 81 → k ≤ 81 → n ≡ min (length s) (81 - k) → m ≡ take n s
+    → take (k + n) (put_mid k (k + n - k) b m) ≡ take 81 (take k b ++ s)
+kept_laid b m s k n whole small e f =
+    let held : length (take k b) ≡ k = length-take-le k b (omega arith) in
+    let few : n ≤ length s = omega (arith, min-le_left (length s) (81 - k)) in
+    let put : length m ≡ n = ap length f ∙ length-take-le n s few in
+    take-put_mid k (k + n - k) b m (k + n) (omega arith) (omega arith)
+    ∙ rw f (kept-part (take k b) s n (omega arith) (rw held e))
 
 -- ---- a step, where code has found the newline at e, or the piece's end
 
@@ -42,6 +47,6 @@ module _ (r : Reading) (c : List ℕ) (e : ℕ) (found : e ≡ until 10 c) where
   unfolding step_of
   step_part h = rw (← found, le-ltb e (length c) h)
 
-pub some-last : (l : List ℕ) (x : Line) → 0 < length l → last_by l x ≡ Whole x
+pub some-last : (l : List ℕ) (x : Line) → 0 < length l → last_by l x ≡ Some x
 some-last [] x h = absurd (omega arith)
 some-last (b ∷ bs) x h = refl

@@ -1,11 +1,11 @@
 -- Laws of text that is put into a buffer, and of decimal digits. Assumes nothing.
-use Rattle.std.proofs.Common.{◌≡◌, ℕ, zero, suc, ◌+◌, ◌*◌, ◌/◌, ◌%◌, ◌^◌, ◌<◌, ◌≤◌, Bool, true, false, ltb, List, [], ◌∷◌, ◌++◌, length, take, drop, set, sym, ap, ◌∙◌, append_assoc, add_assoc, pow-suc, add-one, arith, length-append, length-take-le, drop-drop, take_at, drop_at, le-ltb, lt-ltb}
+use Rattle.std.proofs.Common.{◌≡◌, ℕ, zero, suc, ◌+◌, ◌*◌, ◌/◌, ◌%◌, ◌^◌, ◌<◌, ◌≤◌, Bool, true, false, ltb, List, [], ◌∷◌, ◌++◌, length, take, drop, set, get_or, sym, refl, ap, ◌∙◌, append-nil, take-append-drop, take-suc, add-zero, add-suc, append_assoc, add_assoc, pow-suc, add-one, arith, length-append, length-take-le, drop-drop, take_at, drop_at, le-ltb, lt-ltb}
 use lib.Seq.{paste, length-paste, take-length, set_split, append_snoc}
 use Rattle.lines.specs.declared.Answer.{Answer}
 use Rattle.lines.specs.declared.Answer.TheVariants.{Done, Refused, Value, Absent, Count, Setting, BadLine}
 use Rattle.lines.specs.Console.{ascii}
 use Rattle.lines.specs.Answers.{decimal_by, decimal_within, decimal, named, text_of, laid, Put}
-use Rattle.lines.specs.Digits.{pair, four}
+use Rattle.lines.specs.Digits.{digits}
 
 -- ---- laid over a buffer
 
@@ -43,6 +43,62 @@ then-put {d} {d₁} {d₂} {t} {u} {at} {a} {b} p q room = record {
 
 -- ---- digits
 
+pub length-digits : (k n : ℕ) → length (digits k n) ≡ k
+unfolding digits
+length-digits zero n = refl
+length-digits (suc k) n = rw (length-append, length-digits k (n / 10)) (omega arith)
+
+-- digits are put from the last one on: how many are left to put, and of which number
+pub record PutFrom (k m : ℕ) (d : List ℕ) (at i n : ℕ) (o : List ℕ) : Type 0 where
+  pub done : List ℕ
+  pub whole : digits i n ++ done ≡ digits k m
+  pub sized : i + length done ≡ k
+  pub put : o ≡ laid d (at + i) done
+
+pub put_none : (k m : ℕ) (d : List ℕ) (at : ℕ) → PutFrom k m d at k m d
+put_none k m d at = record {
+  done = [];
+  whole = append-nil (digits k m);
+  sized = omega arith;
+  put = sym (rw (add-zero, append-nil) (take-append-drop (at + k) d));
+}
+
+-- a byte in front of what is laid
+laid_before : (d : List ℕ) (a : ℕ) (t : List ℕ) (x : ℕ) → a + suc (length t) ≤ length d
+    → set (laid d (suc a) t) a x ≡ laid d a (x ∷ t)
+laid_before d a t x room =
+    let y : ℕ = get_or d a 0 in
+    let r : List ℕ = t ++ drop (suc a + length t) d in
+    let head : length (take a d) ≡ a = length-take-le a d (omega arith) in
+    let neck : length (take (suc a) d) ≡ suc a = length-take-le (suc a) d (omega arith) in
+    let parts : take (suc a) d ++ r ≡ take a d ++ (y ∷ r) = rw (take-suc d a 0 (omega arith)) (append_assoc (take a d) (y ∷ []) r) in
+    let front : take a (take (suc a) d ++ r) ≡ take a d = ap (take a) parts ∙ take_at (take a d) (y ∷ r) a head in
+    let back : drop (suc a) (take (suc a) d ++ r) ≡ r = drop_at (take (suc a) d) r (suc a) neck in
+    let behind : suc a + length t ≡ a + suc (length t) = omega arith in
+    let z : List ℕ = drop (suc a + length t) d in
+    let whole : laid d (suc a) t ≡ take (suc a) d ++ r = append_assoc (take (suc a) d) t z in
+    let split = set_split (take (suc a) d ++ r) a x (rw (length-append, neck) (omega arith)) in
+    ap (λ (l : List ℕ). set l a x) whole ∙ split
+    ∙ rw (front, back, behind) (sym (append_assoc (take a d) (x ∷ t) (drop (a + suc (length t)) d)))
+
+pub put_next : {k m at j n : ℕ} {d o : List ℕ} → PutFrom k m d at (suc j) n o → at + k ≤ length d
+    → PutFrom k m d at j (n / 10) (set o (at + j) (48 + n % 10))
+unfolding digits
+put_next {k} {m} {at} {j} {n} {d} {o} p room = record {
+  done = (48 + n % 10) ∷ p.done;
+  whole = sym (append_assoc (digits j (n / 10)) ((48 + n % 10) ∷ []) p.done) ∙ p.whole;
+  sized = omega (arith, p.sized);
+  put = ap (λ (l : List ℕ). set l (at + j) (48 + n % 10)) (p.put ∙ rw add-suc)
+      ∙ laid_before d (at + j) p.done (48 + n % 10) (omega (arith, p.sized));
+}
+
+pub put_all : {k m at n : ℕ} {d o : List ℕ} → PutFrom k m d at 0 n o → Put d at (digits k m) o (at + k)
+unfolding digits
+put_all {k} {m} {at} {n} {d} {o} p = record {
+  out = p.put ∙ rw (p.whole, add-zero);
+  behind = ap (λ (i : ℕ). at + i) (sym (length-digits k m));
+}
+
 length-by : (u : Bool) (front : List ℕ) (n k : ℕ) → length front ≤ k → length (decimal_by u front n) ≤ suc k
 length-by true front n k h = omega arith
 length-by false front n k h = rw length-append (omega arith)
@@ -74,58 +130,59 @@ pub decimal-more : (n : ℕ) → 10 ≤ n → n < 4294967296 → decimal n ≡ d
 unfolding decimal_within
 decimal-more n h g = rw (le-ltb n 10 h) (ap (λ (l : List ℕ). l ++ ((48 + n % 10) ∷ [])) (sym (more_room 8 (n / 10) (omega arith))))
 
--- two digits more, and four
+-- one digit more
 
-digits-pair : (n : ℕ) → ((48 + n / 10 % 10) ∷ []) ++ ((48 + n % 10) ∷ []) ≡ pair (n % 100)
-digits-pair n =
-    let a : n / 10 % 10 ≡ n % 100 / 10 = omega arith in
-    let b : n % 10 ≡ n % 100 % 10 = omega arith in
-    rw (a, b)
+pub decimal-one : (n : ℕ) → n < 10 → decimal n ≡ digits 1 n
+unfolding digits
+decimal-one n h = let e : n ≡ n % 10 = omega arith in decimal-small n h ∙ ap (λ (d : ℕ). (48 + d) ∷ []) e
 
-pub decimal-pair : (n : ℕ) → 10 ≤ n → n < 100 → decimal n ≡ pair n
-decimal-pair n h g =
-    let low : n / 10 < 10 = omega arith in
-    decimal-more n h (omega arith) ∙ rw (decimal-small (n / 10) low)
+pub decimal-next : (k n : ℕ) → 10 ≤ n → n < 4294967296 → decimal (n / 10) ≡ digits k (n / 10) → decimal n ≡ digits (suc k) n
+unfolding digits
+decimal-next k n h g e = decimal-more n h g ∙ ap (λ (l : List ℕ). l ++ ((48 + n % 10) ∷ [])) e
 
-pub decimal-pairs : (n : ℕ) → 100 ≤ n → n < 4294967296 → decimal n ≡ decimal (n / 100) ++ pair (n % 100)
-decimal-pairs n h g =
-    let tenth : 10 ≤ n / 10 = omega arith in
-    let below : n / 10 < 4294967296 = omega arith in
-    let hundredth : n / 10 / 10 ≡ n / 100 = omega arith in
-    decimal-more n (omega arith) g
-    ∙ ap (λ (l : List ℕ). l ++ ((48 + n % 10) ∷ [])) (decimal-more (n / 10) tenth below)
-    ∙ append_assoc (decimal (n / 10 / 10)) ((48 + n / 10 % 10) ∷ []) ((48 + n % 10) ∷ [])
-    ∙ rw (hundredth, digits-pair n)
+pub decimal-two : (n : ℕ) → 10 ≤ n → n < 100 → decimal n ≡ digits 2 n
+decimal-two n h g = decimal-next 1 n h (omega arith) (decimal-one (n / 10) (omega arith))
 
-pub decimal-three : (n : ℕ) → 100 ≤ n → n < 1000 → decimal n ≡ ((48 + n / 100) ∷ []) ++ pair (n % 100)
-decimal-three n h g =
-    let low : n / 100 < 10 = omega arith in
-    decimal-pairs n h (omega arith) ∙ rw (decimal-small (n / 100) low)
+pub decimal-three : (n : ℕ) → 100 ≤ n → n < 1000 → decimal n ≡ digits 3 n
+decimal-three n h g = decimal-next 2 n (omega arith) (omega arith) (decimal-two (n / 10) (omega arith) (omega arith))
 
-pub decimal-four : (n : ℕ) → 1000 ≤ n → n < 10000 → decimal n ≡ four n
-decimal-four n h g =
-    let some : 10 ≤ n / 100 = omega arith in
-    let low : n / 100 < 100 = omega arith in
-    decimal-pairs n (omega arith) (omega arith) ∙ rw (decimal-pair (n / 100) some low)
+pub decimal-four : (n : ℕ) → 1000 ≤ n → n < 10000 → decimal n ≡ digits 4 n
+decimal-four n h g = decimal-next 3 n (omega arith) (omega arith) (decimal-three (n / 10) (omega arith) (omega arith))
 
-digits-four : (n : ℕ) → pair (n / 100 % 100) ++ pair (n % 100) ≡ four (n % 10000)
+-- so many digits have their length
+pub sized : (k n : ℕ) → decimal n ≡ digits k n → length (decimal n) ≡ k
+sized k n e = ap length e ∙ length-digits k n
+
+decimal-behind : (k n m : ℕ) → 10 ≤ n → n < 4294967296 → decimal (n / 10) ≡ decimal m ++ digits k (n / 10)
+    → decimal n ≡ decimal m ++ digits (suc k) n
+unfolding digits
+decimal-behind k n m h g e =
+    decimal-more n h g ∙ ap (λ (l : List ℕ). l ++ ((48 + n % 10) ∷ [])) e
+    ∙ append_assoc (decimal m) (digits k (n / 10)) ((48 + n % 10) ∷ [])
+
+digits-four : (n : ℕ) → digits 4 n ≡ digits 4 (n % 10000)
+unfolding digits
 digits-four n =
-    let a : n / 100 % 100 ≡ n % 10000 / 100 = omega arith in
-    let b : n % 100 ≡ n % 10000 % 100 = omega arith in
-    rw (a, b)
+    let a : n % 10 ≡ n % 10000 % 10 = omega arith in
+    let b : n / 10 % 10 ≡ n % 10000 / 10 % 10 = omega arith in
+    let c : n / 10 / 10 % 10 ≡ n % 10000 / 10 / 10 % 10 = omega arith in
+    let d : n / 10 / 10 / 10 % 10 ≡ n % 10000 / 10 / 10 / 10 % 10 = omega arith in
+    cc
 
-pub decimal-fours : (n : ℕ) → 10000 ≤ n → n < 4294967296 → decimal n ≡ decimal (n / 10000) ++ four (n % 10000)
+pub decimal-fours : (n : ℕ) → 10000 ≤ n → n < 4294967296 → decimal n ≡ decimal (n / 10000) ++ digits 4 (n % 10000)
+unfolding digits
 decimal-fours n h g =
-    let some : 100 ≤ n / 100 = omega arith in
-    let below : n / 100 < 4294967296 = omega arith in
-    let hundredth : n / 100 / 100 ≡ n / 10000 = omega arith in
-    decimal-pairs n (omega arith) g
-    ∙ ap (λ (l : List ℕ). l ++ pair (n % 100)) (decimal-pairs (n / 100) some below)
-    ∙ append_assoc (decimal (n / 100 / 100)) (pair (n / 100 % 100)) (pair (n % 100))
-    ∙ rw (hundredth, digits-four n)
+    let m : ℕ = n / 10000 in
+    let rest : n / 10 / 10 / 10 / 10 ≡ m = omega arith in
+    let none : decimal (n / 10 / 10 / 10 / 10) ≡ decimal m ++ [] = ap decimal rest ∙ sym (append-nil (decimal m)) in
+    decimal-behind 3 n m (omega arith) g
+    (decimal-behind 2 (n / 10) m (omega arith) (omega arith)
+    (decimal-behind 1 (n / 10 / 10) m (omega arith) (omega arith)
+    (decimal-behind 0 (n / 10 / 10 / 10) m (omega arith) (omega arith) none)))
+    ∙ ap (λ (l : List ℕ). decimal m ++ l) (digits-four n)
 
 pub length-fours : (n : ℕ) → 10000 ≤ n → n < 4294967296 → length (decimal n) ≡ length (decimal (n / 10000)) + 4
-length-fours n h g = ap length (decimal-fours n h g) ∙ length-append (decimal (n / 10000)) (four (n % 10000))
+length-fours n h g = ap length (decimal-fours n h g) ∙ length-append (decimal (n / 10000)) (digits 4 (n % 10000)) ∙ rw length-digits
 
 pub length-named : (w : List ℕ) (n : ℕ) → length (named w n) ≡ length w + (length (decimal n) + 1)
 length-named w n = length-append w (decimal n ++ ascii "\n") ∙ rw (length-append (decimal n) (ascii "\n"))

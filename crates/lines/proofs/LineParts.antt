@@ -1,17 +1,17 @@
 -- Laws of a line that stands in a longer text, part by part: a word, one number or two, the newline. Assumes nothing.
-use Rattle.std.proofs.Common.{◌≡◌, ℕ, suc, ◌+◌, ◌-◌, ◌*◌, ◌^◌, ◌<◌, ◌≤◌, Bool, true, false, eqb, leb, List, [], ◌∷◌, ◌++◌, length, get_or, take, drop, sym, refl, ap, ◌∙◌, append_assoc, add-one, arith, length-append, take-append-drop, drop-cons, take_at, eq-eqb, ne_eqb, le-leb, leb-true}
-use Rattle.model.specs.Basic.{all, eq_list}
+use Rattle.std.proofs.Common.{◌≡◌, ℕ, suc, ◌+◌, ◌-◌, ◌*◌, ◌^◌, ◌<◌, ◌≤◌, Bool, true, false, eqb, leb, List, [], ◌∷◌, ◌++◌, length, get_or, take, drop, sym, refl, ap, ◌∙◌, append_assoc, add-one, arith, length-append, take-append-drop, drop-cons, take_at, eq-eqb, ne_eqb, le-leb, leb-true, Some}
+use Rattle.std.specs.List.{starts_with}
+use Rattle.std.proofs.lemmas.Slice.Eq.{starts_is}
+use Rattle.std.proofs.lemmas.Bool.Decides.{Decides-eqb}
+use Rattle.model.specs.Basic.{all}
 use Rattle.model.proofs.lists.Lists.{both_true}
-use Rattle.lines.specs.declared.Number.TheVariants.{Is}
 use Rattle.lines.specs.declared.Command.{Command}
-use Rattle.lines.specs.declared.once.Numeral.{Numeral}
-use Rattle.lines.specs.declared.once.Two.{Two}
-use Rattle.lines.specs.declared.once.Known.{Known}
+use Rattle.lines.specs.declared.once.Upto.{Upto}
 use Rattle.lines.specs.Console.{cut, words, spoken, digit, value_from, command_of, with_one, with_two}
 use Rattle.lines.specs.Words.{until, until_by}
 use Rattle.lines.specs.Places.{DigitsAt, NumberAt, TwoAt, LineAt}
 use Rattle.lines.proofs.Cutting.{one_word}
-use Rattle.lines.proofs.Numbers.{eq_list-true, grows, ten-digits, is_number}
+use Rattle.lines.proofs.Numbers.{grows, ten-digits, is_number}
 use Rattle.lines.proofs.Readback.{value-behind, is_digit, all-behind}
 
 -- ---- text without a mark
@@ -99,7 +99,7 @@ number-here l from mark n i d some h e small = record {
   sized = d.sized;
   few = d.few;
   digits = d.digits;
-  number = is_number d.text (omega (arith, d.sized)) d.few d.digits (omega (arith, d.value)) ∙ ap Is d.value;
+  number = is_number d.text (omega (arith, d.sized)) d.few d.digits (omega (arith, d.value)) ∙ ap Some d.value;
 }
 
 -- ---- a line
@@ -112,14 +112,17 @@ pub record Begins (l w : List ℕ) : Type 0 where
   pub oneline : until 10 w ≡ length w
 
 -- as a test tells it
-pub begins : (l w : List ℕ) {t : Bool} → t ≡ eq_list (take (length w + 1) l) (w ++ (32 ∷ [])) → t ≡ true
+pub begins : (l w : List ℕ) → true ≡ starts_with eqb l (w ++ (32 ∷ []))
     → length w ≤ 50 → until 32 w ≡ length w → until 10 w ≡ length w → Begins l w
-begins l w e taken few spaceless oneline = record {
-  head = eq_list-true (take (length w + 1) l) (w ++ (32 ∷ [])) (sym e ∙ taken);
-  short = few;
-  spaceless = spaceless;
-  oneline = oneline;
-}
+begins l w e few spaceless oneline =
+    let p : List ℕ = w ++ (32 ∷ []) in
+    let parts : l ≡ p ++ drop (length p) l = (starts_is Decides-eqb l p true e).0 refl in
+    record {
+      head = ap (take (length w + 1)) parts ∙ take_at p (drop (length p) l) (length w + 1) (length-append w (32 ∷ []));
+      short = few;
+      spaceless = spaceless;
+      oneline = oneline;
+    }
 
 module _ (l w : List ℕ) (s : Begins l w) where
   -- the line is the word, the space, and what stands up to the newline
@@ -147,15 +150,15 @@ module _ (l w : List ℕ) (s : Begins l w) where
         let size : length (w ++ 32 ∷ x) ≤ 80 = rw length-append (omega (arith, s.short)) in
         rw (le-leb (length (w ++ 32 ∷ x)) 80 size, cut-past 32 _ w x s.spaceless)
 
-    line-here : (k : Known) → length x ≤ 29 → length w + 1 + length x ≡ k.end → k.command ≡ spoken (w ∷ words x) → LineAt l k
+    line-here : (k : Upto Command) → length x ≤ 29 → length w + 1 + length x ≡ k.end → k.value ≡ spoken (w ∷ words x) → LineAt l k
     line-here k few e said = record {
       place = sym (newline-place ∙ e);
       within = omega (arith, long);
       command = said ∙ sym (line-command few) ∙ ap command_of (sym line-text ∙ ap (λ (n : ℕ). take n l) e);
     }
 
-  pub one-here : (n : Numeral) (c : Command) → NumberAt l (length w + 1) 10 n → c ≡ with_one w (Is n.value)
-      → LineAt l (record { command = c; end = n.end })
+  pub one-here : (n : Upto ℕ) (c : Command) → NumberAt l (length w + 1) 10 n → c ≡ with_one w (Some n.value)
+      → LineAt l (record { value = c; end = n.end })
   unfolding spoken
   one-here n c a said =
       let x : List ℕ = a.text in
@@ -163,8 +166,8 @@ module _ (l w : List ℕ) (s : Begins l w) where
       line-here x _ a.parts (plain-digits 10 (omega arith) x a.digits) _ (omega (arith, a.few)) a.sized
       (said ∙ rw (one_word 32 x whole, a.number))
 
-  pub two_here : (t : Two) (c : Command) → TwoAt l (length w + 1) t → c ≡ with_two w (Is t.first) (Is t.second)
-      → LineAt l (record { command = c; end = t.end })
+  pub two_here : (t : Upto (ℕ × ℕ)) (c : Command) → TwoAt l (length w + 1) t → c ≡ with_two w (Some t.value.0) (Some t.value.1)
+      → LineAt l (record { value = c; end = t.end })
   unfolding spoken until
   two_here t c p said =
       let a : List ℕ = p.one.text in

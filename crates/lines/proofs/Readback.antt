@@ -1,7 +1,6 @@
 -- A number that is written is read as the same number: `read_back_lem`. Assumes nothing.
-use Rattle.std.proofs.Common.{◌≡◌, ℕ, zero, suc, ◌+◌, ◌-◌, ◌*◌, ◌/◌, ◌%◌, ◌^◌, ◌<◌, ◌≤◌, Bool, true, false, ◌&&◌, ltb, List, [], ◌∷◌, ◌++◌, length, refl, ap, ◌∙◌, pow-suc, arith, length-append, ltb-true, le-leb}
+use Rattle.std.proofs.Common.{◌≡◌, ℕ, zero, suc, ◌+◌, ◌-◌, ◌*◌, ◌/◌, ◌%◌, ◌^◌, ◌<◌, ◌≤◌, Bool, true, false, ◌&&◌, ltb, List, [], ◌∷◌, ◌++◌, length, refl, ap, ◌∙◌, pow-suc, arith, length-append, ltb-true, le-leb, Some}
 use Rattle.model.specs.Basic.{all}
-use Rattle.lines.specs.declared.Number.TheVariants.{Is}
 use Rattle.lines.specs.Console.{digit, value_from, number_of}
 use Rattle.lines.specs.Answers.{decimal_by, decimal_within, decimal}
 use Rattle.lines.proofs.Numbers.{is_number}
@@ -52,9 +51,9 @@ some-by : (u : Bool) (front : List ℕ) (n : ℕ) → 1 ≤ length (decimal_by u
 some-by true front n = omega arith
 some-by false front n = rw length-append (omega arith)
 
-pub read_back_lem : (n : ℕ) → n ≤ 4294967295 → number_of (decimal n) ≡ Is n
+pub read_back_lem : (n : ℕ) → n ≤ 4294967295 → number_of (decimal n) ≡ Some n
 unfolding decimal_within
 read_back_lem n h =
     let v : value_from 0 (decimal n) ≡ n = value-within 10 n (omega arith) in
     let some : 1 ≤ length (decimal n) = some-by (ltb n 10) (decimal_within 9 (n / 10)) n in
-    is_number (decimal n) some (length-decimal n) (digits-within 10 n) (omega arith) ∙ ap Is v
+    is_number (decimal n) some (length-decimal n) (digits-within 10 n) (omega arith) ∙ ap Some v

@@ -2,12 +2,12 @@
 use Rattle.std.proofs.Common.{◌≡◌, ℕ, suc, ◌+◌, ◌<◌, ◌≤◌, Bool, true, false, eqb, List, [], ◌∷◌, ◌++◌, length, get_or, take, drop, sym, refl, ap, ◌∙◌, subst, append_assoc, append-nil, add-one, arith, take-append-drop, length-take, take_all, drop-cons, eqb-true}
 use native.Mathlib.Decide.{dec_lt}
 use native.Mathlib.Nat.{min-le_left}
+use Rattle.lines.specs.declared.Command.{Command}
 use Rattle.lines.specs.declared.Held.{Held}
 use Rattle.lines.specs.declared.Taken.{Taken}
 use Rattle.lines.specs.Words.{until, until_by}
-use Rattle.lines.specs.declared.Heard.TheVariants.{Whole}
 use Rattle.lines.specs.Console.{command_of}
-use Rattle.lines.specs.Reading.{Reading, kept, next, line_of, push_by, read_on, told, heard_lines, Step, step_of, reading, shown, Hears}
+use Rattle.lines.specs.Reading.{Reading, kept, push_by, read_on, told, heard_lines, Step, step_by, ended, step_of, reading, shown, Hears}
 use Rattle.lines.proofs.Keeping.{take_again, step-whole, step_part}
 use Rattle.lines.proofs.Streams.{enough, told-append, read_on-append}
 
@@ -63,13 +63,25 @@ read-quiet r (b ∷ bs) h = read_by r b bs h (eqb b 10) refl (read-quiet (kept r
 
 -- ---- the step
 
+-- a line that ended with its bytes kept
+pub step-kept : (r : Reading) (c : List ℕ) (e : ℕ) (k : Command) {m : Reading} → m ≡ kept r (take e c) → e ≡ until 10 c → e < length c
+    → k ≡ command_of m.text → ended m k e ≡ step_of r c
+step-kept r c e k {m} more found h said = (λ i. ended m (said i) e) ∙ ap (λ (x : Reading). step_by true x e) more ∙ step-whole r c e found h
+
 -- nothing is held of a line that is whole in the piece: its text there tells what the bytes kept of it would tell
-pub step-standing : (r : Reading) (c : List ℕ) (e : ℕ) → r.text ≡ [] → e ≡ until 10 c → e < length c
-    → record { after = next r; used = e + 1; heard = Whole (line_of (record { text = take e c; before = r.before })) } ≡ step_of r c
-step-standing r c e none found h =
+pub step-standing : (r : Reading) (c : List ℕ) (e : ℕ) (k : Command) → r.text ≡ [] → e ≡ until 10 c → e < length c
+    → k ≡ command_of (take e c) → ended r k e ≡ step_of r c
+step-standing r c e k none found h said =
     let same : command_of (take 81 (r.text ++ take e c)) ≡ command_of (take e c) = rw none (enough (take e c)) in
-    (λ i. record { after = next r; used = e + 1; heard = Whole (record { number = r.before + 1; command = sym same i }) })
-    ∙ step-whole r c e found h
+    (λ i. ended r ((said ∙ sym same) i) e) ∙ step-whole r c e found h
+
+-- what is to be heard of a line that ended
+pub hears-ended : {h : Held} {c : List ℕ} {t : Taken} (r : Reading) (k : Command) (e : ℕ) → shown t ≡ ended r k e
+    → ended r k e ≡ step_of (reading h) c → r.before ≡ h.before → t.held.len ≤ 81 → e < length c → Hears h c t
+hears-ended {h} {c} {t} r k e p q same room within =
+    let used : t.used ≡ e + 1 = ap (λ (s : Step). s.used) p in
+    let before : t.held.before ≡ r.before + 1 = ap (λ (s : Step). s.after.before) p in
+    record { step = p ∙ q; room = room; moves = λ _. omega arith; within = omega arith; few = omega arith }
 
 module _ (r : Reading) (c : List ℕ) (room : length r.text ≤ 81) where
   -- the bytes up to the newline, and the rest

@@ -1,11 +1,9 @@
 -- The console's language: which bytes are which command. Each clause stands under its sentence of document 01, "The console program".
 -- Assumes nothing.
-use Rattle.std.specs.Prelude.{ℕ, ◌+◌, ◌-◌, ◌*◌, Bool, true, false, ◌&&◌, List, [], ◌∷◌, length, ◌==◌, nat_le}
+use Rattle.std.specs.Prelude.{ℕ, ◌+◌, ◌-◌, ◌*◌, Bool, true, false, ◌&&◌, List, [], ◌∷◌, length, ◌==◌, nat_le, Option, Some, None}
 use Prim.Native.Char.{code}
 use Prim.Native.String.{String, [] as end, ◌∷◌ as ◌then◌}
 use Rattle.model.specs.Basic.{pick, all, eq_list}
-use Rattle.lines.specs.declared.Number.{Number}
-use Rattle.lines.specs.declared.Number.TheVariants.{Is, Nothing}
 use Rattle.lines.specs.declared.Command.{Command}
 use Rattle.lines.specs.declared.Command.TheVariants.{Store, Open, Insert, Delete, Commit, Abandon, Get, Range, Bad}
 use Rattle.lines.specs.declared.Line.{Line}
@@ -43,11 +41,11 @@ value_from n [] = n
 value_from n (b ∷ bs) = value_from (10 * n + (b - 48)) bs
 
 -- "a number has 1 to 10 decimal digits and is at most 4,294,967,295"
-unfoldable pub number_of : List ℕ → Number
+unfoldable pub number_of : List ℕ → Option ℕ
 number_of w =
     pick (nat_le 1 (length w) && nat_le (length w) 10 && all digit w && nat_le (value_from 0 w) 4294967295)
-    (Is (value_from 0 w))
-    Nothing
+    (Some (value_from 0 w))
+    None
 
 -- "`open`", "`commit`", "`abandon`"
 abbrev pub with_none : List ℕ → Command
@@ -58,28 +56,28 @@ with_none w =
     Bad))
 
 -- "`store N`", "`delete K`"
-abbrev pub with_one : List ℕ → Number → Command
-with_one w Nothing = Bad
-with_one w (Is n) =
+abbrev pub with_one : List ℕ → Option ℕ → Command
+with_one w None = Bad
+with_one w (Some n) =
     pick (eq_list w (ascii "store")) (Store n)
     (pick (eq_list w (ascii "delete")) (Delete n)
     Bad)
 
 -- "`insert K V`", "`get K V` (V a version)"
-abbrev pub with_two : List ℕ → Number → Number → Command
-with_two w Nothing b = Bad
-with_two w (Is k) Nothing = Bad
-with_two w (Is k) (Is v) =
+abbrev pub with_two : List ℕ → Option ℕ → Option ℕ → Command
+with_two w None b = Bad
+with_two w (Some k) None = Bad
+with_two w (Some k) (Some v) =
     pick (eq_list w (ascii "insert")) (Insert k v)
     (pick (eq_list w (ascii "get")) (Get k v)
     Bad)
 
 -- "`range L H V`"
-abbrev pub with_three : List ℕ → Number → Number → Number → Command
-with_three w Nothing b c = Bad
-with_three w (Is l) Nothing c = Bad
-with_three w (Is l) (Is h) Nothing = Bad
-with_three w (Is l) (Is h) (Is v) = pick (eq_list w (ascii "range")) (Range l h v) Bad
+abbrev pub with_three : List ℕ → Option ℕ → Option ℕ → Option ℕ → Command
+with_three w None b c = Bad
+with_three w (Some l) None c = Bad
+with_three w (Some l) (Some h) None = Bad
+with_three w (Some l) (Some h) (Some v) = pick (eq_list w (ascii "range")) (Range l h v) Bad
 
 unfoldable pub spoken : List (List ℕ) → Command
 spoken [] = Bad

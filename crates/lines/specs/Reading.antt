@@ -1,9 +1,8 @@
 -- Reading an input piece by piece: what is kept of the line that is being read, and which lines end in a piece.
 -- Assumes nothing.
-use Rattle.std.specs.Prelude.{◌≡◌, ℕ, ◌+◌, ◌<◌, ◌≤◌, Bool, true, false, List, [], ◌∷◌, ◌++◌, length, take, ◌==◌, nat_lt}
+use Rattle.std.specs.Prelude.{◌≡◌, ℕ, ◌+◌, ◌<◌, ◌≤◌, Bool, true, false, List, [], ◌∷◌, ◌++◌, length, take, ◌==◌, nat_lt, Option, Some, None}
+use Rattle.lines.specs.declared.Command.{Command}
 use Rattle.lines.specs.declared.Line.{Line}
-use Rattle.lines.specs.declared.Heard.{Heard}
-use Rattle.lines.specs.declared.Heard.TheVariants.{Whole, Nothing}
 use Rattle.lines.specs.declared.Held.{Held}
 use Rattle.lines.specs.declared.Taken.{Taken}
 use Rattle.lines.specs.Console.{command_of}
@@ -51,16 +50,16 @@ told r [] = []
 told r (b ∷ bs) = ended_by (b == 10) r ++ told (push r b) bs
 
 -- the end of the input: what stands behind the last newline is a line if it has a byte
-abbrev pub last_by : List ℕ → Line → Heard
-last_by [] l = Nothing
-last_by (b ∷ bs) l = Whole l
+abbrev pub last_by : List ℕ → Line → Option Line
+last_by [] l = None
+last_by (b ∷ bs) l = Some l
 
-abbrev pub last_of : Reading → Heard
+abbrev pub last_of : Reading → Option Line
 last_of r = last_by r.text (line_of r)
 
-abbrev pub heard_lines : Heard → List Line
-heard_lines Nothing = []
-heard_lines (Whole l) = l ∷ []
+abbrev pub heard_lines : Option Line → List Line
+heard_lines None = []
+heard_lines (Some l) = l ∷ []
 
 -- the whole input in pieces, cut anywhere
 unfoldable pub told_all : Reading → List (List ℕ) → List Line
@@ -73,11 +72,15 @@ told_all r (c ∷ cs) = told r c ++ told_all (read_on r c) cs
 pub record Step : Type 0 where
   pub after : Reading
   pub used : ℕ
-  pub heard : Heard
+  pub heard : Option Line
 
 abbrev pub step_by : Bool → Reading → ℕ → Step
-step_by true r e = record { after = next r; used = e + 1; heard = Whole (line_of r) }
-step_by false r e = record { after = r; used = e; heard = Nothing }
+step_by true r e = record { after = next r; used = e + 1; heard = Some (line_of r) }
+step_by false r e = record { after = r; used = e; heard = None }
+
+-- a line that is the command k ended at e
+abbrev pub ended : Reading → Command → ℕ → Step
+ended r k e = record { after = next r; used = e + 1; heard = Some (record { number = r.before + 1; command = k }) }
 
 unfoldable pub step_of : Reading → List ℕ → Step
 step_of r c = step_by (nat_lt (until 10 c) (length c)) (kept r (take (until 10 c) c)) (until 10 c)

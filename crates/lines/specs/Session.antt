@@ -4,8 +4,8 @@ use Rattle.std.specs.Prelude.{ℕ, zero, suc, ◌*◌, ◌&&◌, List, [], ◌�
 use Rattle.model.specs.Basic.{pick, flat_map}
 use Rattle.model.specs.Store.{fresh}
 use Rattle.model.specs.Layout.{encode}
-use Rattle.model.specs.declared.Looked.{Looked}
-use Rattle.model.specs.declared.Looked.TheVariants.{Value as Found, Absent as NotFound, Refused as NotLooked}
+use Rattle.model.specs.Looked.{Looked}
+use Rattle.model.specs.Looked.{Value as Found, Absent as NotFound, Refused as NotLooked}
 use Rattle.model.specs.Lent.{Outcome, Listed, open_lent, insert_lent, delete_lent, commit_lent, abandon_lent, lookup_lent, range_lent}
 use Rattle.lines.specs.declared.Command.{Command}
 use Rattle.lines.specs.declared.Command.TheVariants.{Store, Open, Insert, Delete, Commit, Abandon, Get, Range, Bad}

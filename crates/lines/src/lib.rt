@@ -14,13 +14,6 @@ pub use gathering::{hear, last, start};
 pub use parsing::parse;
 pub use saying::say;
 
-// What a word is as a number.
-#[derive(Clone, Copy)]
-pub enum Number {
-    Is(u32),
-    Nothing,
-}
-
 #[derive(Clone, Copy)]
 pub enum Command {
     Store { pages: u32 },
@@ -41,14 +34,8 @@ pub struct Line {
     pub command: Command,
 }
 
-// A line that ended, or none.
-#[derive(Clone, Copy)]
-pub enum Heard {
-    Whole(Line),
-    Nothing,
-}
-
-// The line that is being read: its first bytes, 81 at most, how many they are, and how many lines came before.
+// The line that is being read: its first bytes, 81 at most, how many they are, and how many lines came before. The bytes have a length
+// beside them since the memory is fixed.
 #[derive(Clone, Copy)]
 pub struct Held {
     pub bytes: [u8; 81],
@@ -61,7 +48,7 @@ pub struct Held {
 pub struct Taken {
     pub held: Held,
     pub used: usize,
-    pub heard: Heard,
+    pub heard: Option<Line>,
 }
 
 // What the program answers, a line each. `Done` is written `ok`.

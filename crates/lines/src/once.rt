@@ -1,140 +1,92 @@
 // The commonest lines in one pass: `get K V`, `insert K V` and `delete K`, each with its newline, read in the piece where they stand.
 // Of any other line, a bad one too, nothing is known here, and the way by words (gathering, parsing) reads it.
-ghost use Rattle.std.specs.Prelude.{◌+◌, ◌<◌, length};
+ghost use Rattle.std.specs.Prelude.{◌+◌, ◌<◌, length, IfSome};
 ghost use Rattle.lines.specs.Places.{DigitsAt, NumberAt, TwoAt, LineAt};
 
 use crate::Command;
-use crate::word::{same, wide};
 
-// Digits, ten at most: the number that they are, and the place behind them.
+// What stands from a place on, and the place behind it: for digits and their number that of the mark, for a command that of its line's
+// newline.
 #[derive(Clone, Copy)]
-struct Digits {
-    value: u64,
-    end: usize,
-}
-
-// A number, and the place of the mark behind it; 0: none is known.
-#[derive(Clone, Copy)]
-struct Numeral {
-    value: u32,
-    end: usize,
-}
-
-// Two numbers, and the place of the newline behind them; 0: none are known.
-#[derive(Clone, Copy)]
-struct Two {
-    first: u32,
-    second: u32,
-    end: usize,
-}
-
-// A command, and the place of its line's newline; 0: nothing is known.
-#[derive(Clone, Copy)]
-pub(crate) struct Known {
-    pub command: Command,
+pub(crate) struct Upto<T> {
+    pub value: T,
     pub end: usize,
 }
 
-// A byte below 48 wraps to a large number: one test for both sides.
-fn digits_at(s: &[u8], from: usize) -> Digits
+// Digits, ten at most. A byte below 48 wraps to a large number: one test for both sides. In bytes the difference takes an instruction
+// more for each digit.
+fn digits_at(s: &[u8], from: usize) -> Upto<u64>
     requires { from + 10 < length s.now }
     ensures { DigitsAt s.now from result }
 {
     let last = from + 10;
     let mut value: u64 = 0;
-    let mut end = from;
-    while end < last {
-        let d = std::num::wrapping_sub_u64(wide(s[end]), 48);
+    for end in from..last {
+        let d = u64::from(s[end]).wrapping_sub(48);
         if 9 < d {
-            return Digits { value, end };
+            return Upto { value, end };
         }
         value = 10 * value + d;
-        end += 1;
     }
-    Digits { value, end }
+    Upto { value, end: last }
 }
 
 // "a number has 1 to 10 decimal digits and is at most 4,294,967,295"
-fn number_at(s: &[u8], from: usize, mark: u8) -> Numeral
+fn number_at(s: &[u8], from: usize, mark: u8) -> Option<Upto<u32>>
     requires { from + 10 < length s.now }
-    ensures { 0 < result.end → NumberAt s.now from mark result }
+    ensures { IfSome result (λ n. NumberAt s.now from mark n) }
 {
-    let d = digits_at(s, from);
-    let end = d.end;
-    let value = d.value;
-    if end <= from {
-        return Numeral { value: 0, end: 0 };
+    let Upto { value, end } = digits_at(s, from);
+    if end == from || s[end] != mark || 4294967295 < value {
+        return None;
     }
-    if s[end] != mark {
-        return Numeral { value: 0, end: 0 };
-    }
-    if 4294967295 < value {
-        return Numeral { value: 0, end: 0 };
-    }
-    Numeral {
+    Some(Upto {
         value: value as u32,
         end,
-    }
+    })
 }
 
-fn two_at(s: &[u8], from: usize) -> Two
+fn two_at(s: &[u8], from: usize) -> Option<Upto<(u32, u32)>>
     requires { from + 21 < length s.now }
-    ensures { 0 < result.end → TwoAt s.now from result }
+    ensures { IfSome result (λ t. TwoAt s.now from t) }
 {
-    let a = number_at(s, from, b' ');
-    let mid = a.end;
-    if mid < 1 {
-        return Two {
-            first: 0,
-            second: 0,
-            end: 0,
-        };
-    }
-    let b = number_at(s, mid + 1, b'\n');
-    Two {
-        first: a.value,
-        second: b.value,
+    let a = number_at(s, from, b' ')?;
+    let b = number_at(s, a.end + 1, b'\n')?;
+    Some(Upto {
+        value: (a.value, b.value),
         end: b.end,
-    }
+    })
 }
 
 // The longest of these lines has 29 bytes with its newline. A shorter piece is left to the other way, so that no digit asks for its end.
-// That nothing is known is written out twice: as a function's answer it goes through memory, ten instructions more for each line.
-pub(crate) fn at_once(piece: &[u8]) -> Known
-    ensures { 0 < result.end → LineAt piece.now result }
+pub(crate) fn at_once(piece: &[u8]) -> Option<Upto<Command>>
+    ensures { IfSome result (λ k. LineAt piece.now k) }
 {
     if piece.len() < 29 {
-        return Known {
-            command: Command::Bad,
-            end: 0,
-        };
+        return None;
     }
-    if same(&piece[..4], b"get ") {
-        let t = two_at(piece, 4);
-        let command = Command::Get {
-            key: t.first,
-            version: t.second,
-        };
-        let end = t.end;
-        return Known { command, end };
+    if piece.starts_with(b"get ") {
+        let t = two_at(piece, 4)?;
+        let (key, version) = t.value;
+        return Some(Upto {
+            value: Command::Get { key, version },
+            end: t.end,
+        });
     }
-    if same(&piece[..7], b"insert ") {
-        let t = two_at(piece, 7);
-        let command = Command::Insert {
-            key: t.first,
-            value: t.second,
-        };
-        let end = t.end;
-        return Known { command, end };
+    if piece.starts_with(b"insert ") {
+        let t = two_at(piece, 7)?;
+        let (key, value) = t.value;
+        return Some(Upto {
+            value: Command::Insert { key, value },
+            end: t.end,
+        });
     }
-    if same(&piece[..7], b"delete ") {
-        let n = number_at(piece, 7, b'\n');
-        let command = Command::Delete { key: n.value };
-        let end = n.end;
-        return Known { command, end };
+    if piece.starts_with(b"delete ") {
+        let n = number_at(piece, 7, b'\n')?;
+        return Some(Upto {
+            value: Command::Delete { key: n.value },
+            end: n.end,
+        });
     }
-    Known {
-        command: Command::Bad,
-        end: 0,
-    }
+    None
 }

@@ -1,7 +1,7 @@
 // Answers as text, put into a lent buffer. Each function gives the place behind what it put.
-ghost use Rattle.std.specs.Prelude.{◌+◌, ◌<◌, ◌≤◌, [], ◌∷◌, length};
+ghost use Rattle.std.specs.Prelude.{◌+◌, ◌<◌, ◌≤◌, length};
 ghost use Rattle.lines.specs.Answers.{decimal, named, text_of, Put};
-ghost use Rattle.lines.specs.Digits.{pair, four};
+ghost use Rattle.lines.specs.Digits.{digits};
 
 use crate::Answer;
 
@@ -9,39 +9,22 @@ fn put(text: &[u8], out: &mut [u8], at: usize) -> usize
     requires { at + length text.now ≤ length out.old }
     ensures { Put out.old at text.now out.new result }
 {
-    let mut i = 0;
-    while i < text.len() {
-        out[at + i] = text[i];
-        i += 1;
+    let end = at + text.len();
+    out[at..end].copy_from_slice(text);
+    end
+}
+
+// The last N digits. Numbers are put by fours of them, by functions that call each other in a row: as a recursion, with `put_some` and
+// `put_number` one, an answer takes ten instructions more.
+fn put_digits<const N: usize>(mut n: u32, out: &mut [u8], at: usize) -> usize
+    requires { at + N ≤ length out.old }
+    ensures { Put out.old at (digits N n) out.new result }
+{
+    for i in (0..N).rev() {
+        out[at + i] = b'0' + (n % 10) as u8;
+        n /= 10;
     }
-    at + i
-}
-
-fn put_digit(d: u32, out: &mut [u8], at: usize) -> usize
-    requires d_bound { d < 10 }
-    requires at_in_bounds { at < length out.old }
-    ensures { Put out.old at ((48 + d) ∷ []) out.new result }
-{
-    out[at] = 48 + d as u8;
-    at + 1
-}
-
-fn put_pair(n: u32, out: &mut [u8], at: usize) -> usize
-    requires n_bound { n < 100 }
-    requires at_in_bounds { at + 2 ≤ length out.old }
-    ensures { Put out.old at (pair n) out.new result }
-{
-    let e = put_digit(n / 10, out, at);
-    put_digit(n % 10, out, e)
-}
-
-fn put_four(n: u32, out: &mut [u8], at: usize) -> usize
-    requires n_bound { n < 10000 }
-    requires at_in_bounds { at + 4 ≤ length out.old }
-    ensures { Put out.old at (four n) out.new result }
-{
-    let e = put_pair(n / 100, out, at);
-    put_pair(n % 100, out, e)
+    at + N
 }
 
 // One to four digits.
@@ -51,16 +34,14 @@ fn put_few(n: u32, out: &mut [u8], at: usize) -> usize
     ensures { Put out.old at (decimal n) out.new result }
 {
     if n < 10 {
-        return put_digit(n, out, at);
+        put_digits::<1>(n, out, at)
+    } else if n < 100 {
+        put_digits::<2>(n, out, at)
+    } else if n < 1000 {
+        put_digits::<3>(n, out, at)
+    } else {
+        put_digits::<4>(n, out, at)
     }
-    if n < 100 {
-        return put_pair(n, out, at);
-    }
-    if n < 1000 {
-        let e = put_digit(n / 100, out, at);
-        return put_pair(n % 100, out, e);
-    }
-    put_four(n, out, at)
 }
 
 // One to eight digits.
@@ -73,7 +54,7 @@ fn put_some(n: u32, out: &mut [u8], at: usize) -> usize
         return put_few(n, out, at);
     }
     let e = put_few(n / 10000, out, at);
-    put_four(n % 10000, out, e)
+    put_digits::<4>(n % 10000, out, e)
 }
 
 fn put_number(n: u32, out: &mut [u8], at: usize) -> usize
@@ -84,7 +65,7 @@ fn put_number(n: u32, out: &mut [u8], at: usize) -> usize
         return put_few(n, out, at);
     }
     let e = put_some(n / 10000, out, at);
-    put_four(n % 10000, out, e)
+    put_digits::<4>(n % 10000, out, e)
 }
 
 // A word, a number, the line's end.

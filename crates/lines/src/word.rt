@@ -1,73 +1,28 @@
-// Words: where one ends, whether it is a certain one, which number it is.
-ghost use Rattle.std.specs.Prelude.{◌≡◌};
-ghost use Rattle.model.specs.Basic.{eq_list};
+// Words: where one ends, which number it is.
+ghost use Rattle.std.specs.Prelude.{◌≡◌, ◌<◌, length, MatchOption};
 ghost use Rattle.lines.specs.Console.{number_of};
 ghost use Rattle.lines.specs.Words.{until};
 
-use crate::Number;
-
-// How many bytes stand before the first mark, or in all.
-pub(crate) fn find(s: &[u8], mark: u8) -> usize
-    ensures { result ≡ until mark s.now }
+// The place of the first mark: so many bytes stand before it.
+pub(crate) fn find(s: &[u8], mark: u8) -> Option<usize>
+    ensures { MatchOption result (until mark s.now ≡ length s.now) (λ e. (e ≡ until mark s.now) × (e < length s.now)) }
 {
-    let mut i = 0;
-    while i < s.len() {
-        if s[i] == mark {
-            return i;
-        }
-        i += 1;
-    }
-    i
+    s.iter().position(|b| *b == mark)
 }
 
-// Whether two words are alike.
-pub(crate) fn same(a: &[u8], b: &[u8]) -> bool
-    ensures { result ≡ eq_list a.now b.now }
-{
-    if a.len() != b.len() {
-        return false;
-    }
-    let mut i = 0;
-    while i < a.len() {
-        if a[i] != b[i] {
-            return false;
-        }
-        i += 1;
-    }
-    true
-}
-
-pub(crate) fn wide(x: u8) -> u64
-    ensures { result ≡ x }
-{
-    x as u64
-}
-
-// "a number has 1 to 10 decimal digits and is at most 4,294,967,295". The digits are the bytes 48 to 57; ten of them want 34 bits.
-pub(crate) fn number(word: &[u8]) -> Number
+// "a number has 1 to 10 decimal digits and is at most 4,294,967,295". Ten digits want 34 bits.
+pub(crate) fn number(word: &[u8]) -> Option<u32>
     ensures { result ≡ number_of word.now }
 {
-    if word.len() == 0 {
-        return Number::Nothing;
-    }
-    if 10 < word.len() {
-        return Number::Nothing;
+    if word.is_empty() || 10 < word.len() {
+        return None;
     }
     let mut n: u64 = 0;
-    let mut i = 0;
-    while i < word.len() {
-        let b = wide(word[i]);
-        if b < 48 {
-            return Number::Nothing;
+    for b in word {
+        if !b.is_ascii_digit() {
+            return None;
         }
-        if 57 < b {
-            return Number::Nothing;
-        }
-        n = 10 * n + (b - 48);
-        i += 1;
+        n = 10 * n + u64::from(*b - b'0');
     }
-    if n <= 4294967295 {
-        return Number::Is(n as u32);
-    }
-    Number::Nothing
+    u32::try_from(n).ok()
 }

@@ -1,5 +1,5 @@
 -- What rules 1 to 3 ask of bytes, as the code tests it, and what rule 1 gives.
-use Rattle.std.specs.Prelude.{ℕ, ◌+◌, ◌*◌, ◌^◌, ◌<◌, ◌≤◌, Bool, ◌&&◌, ◌||◌, not, ◌≡◌, List, leb, length}
+use Rattle.std.specs.Prelude.{ℕ, ◌+◌, ◌*◌, ◌-◌, ◌^◌, ◌<◌, ◌≤◌, Bool, ◌&&◌, ◌||◌, not, ◌≡◌, List, leb, length}
 use Rattle.model.specs.Basic.{all, in_order}
 use Rattle.model.specs.declared.Entry.{Entry}
 use Rattle.model.specs.declared.Slot.{Slot}
@@ -8,9 +8,9 @@ use Rattle.model.specs.Page.{Page, is_free}
 use Rattle.model.specs.declared.Header.{Header}
 use Rattle.model.specs.Store.{Store, page, last_of}
 use Rattle.model.specs.Sound.{entry_ok, page_fine, inside, leads_well, lies_well}
-use Rattle.model.specs.Layout.{read_entry, page_of, read_pages, read_slot, read_header, size_of}
+use Rattle.model.specs.Layout.{read_entry, read_entries, page_of, read_pages, read_slot, read_header, size_of}
 use Rattle.model.specs.Clean.{clean_pages}
-use Rattle.model.specs.Inner.{sooner}
+use Rattle.model.specs.Inner.{first_ok, sooner}
 use Rattle.page.specs.declared.Head.{Head}
 use Rattle.page.specs.Head.{read_head}
 
@@ -68,6 +68,12 @@ pub record Held (least : ℕ) (s : List ℕ) (h : Header) : Type 0 where
 -- the entries of a page: l is the last version
 abbrev pub entries_ok : (l size level : ℕ) (es : List Entry) → Bool
 entries_ok l size level es = in_order before es && all (entry_ok l size level) es
+
+-- entry i of the n entries of a page's bytes, and the one behind it, if there is one
+abbrev pub entry_test : (l size level : ℕ) (p : List ℕ) (n i : ℕ) → Bool
+entry_test l size level p n i =
+    entry_ok l size level (read_entry p (128 + 96 * i))
+    && first_ok before (read_entry p (128 + 96 * i)) (read_entries p (128 + 96 * (i + 1)) (n - (i + 1)))
 
 -- so many pages from page n on
 unfoldable pub pages_fine : (least l size : ℕ) (s : List ℕ) (n k : ℕ) → Bool

@@ -10,26 +10,14 @@ use model::Entry;
 pub(crate) fn span_ok(last: u32, a: u32, b: u32) -> bool
     ensures { result ≡ span_ok last a b }
 {
-    if last < a {
-        return false;
-    }
-    if last < b {
-        if b != 1048575 {
-            return false;
-        }
-        return a < b;
-    }
-    a < b
+    a <= last && (b <= last || b == page::ALIVE) && a < b
 }
 
 // "root and router page numbers run from 5 to below the page count"
 pub(crate) fn is_page(size: usize, n: u32) -> bool
     ensures { result ≡ is_page size n }
 {
-    if n < 5 {
-        return false;
-    }
-    model::wide(n) < size
+    5 <= n && (n as usize) < size
 }
 
 // An entry of a page of this level. Its key and its value, as they are read, fit their bits.
@@ -37,24 +25,17 @@ pub(crate) fn entry_ok(last: u32, size: usize, level: u32, e: Entry) -> bool
     requires { SizedEntry e }
     ensures { result ≡ entry_ok last size level e }
 {
-    if !span_ok(last, e.start, e.end) {
-        return false;
-    }
-    if level == 1 {
-        return 1 <= e.start;
-    }
-    is_page(size, e.value)
+    span_ok(last, e.start, e.end)
+        && if level == 1 {
+            1 <= e.start
+        } else {
+            is_page(size, e.value)
+        }
 }
 
 // "Entries stand by key, then start, no two alike in both"
 pub(crate) fn stands_before(d: Entry, e: Entry) -> bool
     ensures { result ≡ before d e }
 {
-    if d.key < e.key {
-        return true;
-    }
-    if d.key != e.key {
-        return false;
-    }
-    d.start < e.start
+    (d.key, d.start) < (e.key, e.start)
 }

@@ -1,6 +1,5 @@
 // Rule 1: "Sizes, levels, counts, zero bits, order and header fields are as above".
 ghost use Rattle.std.specs.Prelude.{◌≡◌, ◌*◌, ◌≤◌};
-ghost use Rattle.model.specs.Limits.{Edition};
 ghost use Rattle.model.specs.Layout.{read_slots};
 ghost use Rattle.model.specs.Clean.{clean};
 ghost use Rattle.local.specs.Local.{Sized};
@@ -10,31 +9,20 @@ use model::Limits;
 
 // The root page of every used slot is a page.
 pub(crate) fn roots_ok(s: &[u8], l: Limits, roots: usize, size: usize) -> bool
-    requires { Edition l × Sized l.least s.now size × (roots ≤ 64 * l.least) }
+    requires { Sized l.least s.now size × (roots ≤ 64 * l.least) }
     ensures { result ≡ rooted size (read_slots s.now (512 * l.least) roots) }
 {
-    let mut i = 0;
-    while i < roots {
-        let x = store::slot(s, l, i);
-        if !crate::entry::is_page(size, x.root) {
-            return false;
-        }
-        i += 1;
-    }
-    true
+    (0..roots).all(|i| crate::entry::is_page(size, store::slot(s, l, i).root))
 }
 
 // Rule 1 of lent bytes, which make `size` pages.
 pub fn first_rule(s: &[u8], l: Limits, size: usize) -> bool
-    requires { Edition l × Sized l.least s.now size }
+    requires { Sized l.least s.now size }
     ensures { result ≡ clean l.least s.now }
 {
     if !crate::front::fields_right(s, l, size) {
         return false;
     }
     let h = store::header(s, l);
-    if !roots_ok(s, l, model::wide(h.roots), size) {
-        return false;
-    }
-    crate::pages::pages_ok(s, l, size, h.last())
+    roots_ok(s, l, h.roots as usize, size) && crate::pages::pages_ok(s, l, size, h.last())
 }

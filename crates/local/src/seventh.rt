@@ -2,7 +2,6 @@
 // rules 1 and 3.
 ghost use Rattle.std.specs.Prelude.{◌≡◌, ◌+◌, ◌*◌, ◌-◌, ◌^◌, ◌≤◌, length};
 ghost use Rattle.model.specs.Basic.{all};
-ghost use Rattle.model.specs.Limits.{Edition};
 ghost use Rattle.model.specs.Sound.{rule7};
 ghost use Rattle.model.specs.Layout.{page_of, decode_page, read_entries, read_pages, decode, size_of};
 ghost use Rattle.local.specs.Local.{Held, Ruled, IsPage};
@@ -14,65 +13,36 @@ use model::{Entry, Header, Limits};
 fn is_young(w: u32, e: Entry) -> bool
     ensures { result ≡ is_young w e }
 {
-    if e.start != w {
-        return false;
-    }
-    e.end == page::ALIVE
+    e.start == w && e.end == page::ALIVE
 }
 
 fn all_young(page: &[u8], n: usize, w: u32) -> bool
     requires { (16 + 12 * n ≤ length page.now) × (length page.now ≤ 2 ^ 40) }
     ensures { result ≡ all (is_young w) (read_entries page.now 128 n) }
 {
-    let mut i = 0;
-    while i < n {
-        let e = page::entry_at(page, i);
-        if !is_young(w, e) {
-            return false;
-        }
-        i += 1;
-    }
-    true
+    (0..n).all(|i| is_young(w, page::entry_at(page, i)))
 }
 
 // Page n, unless it is free or starts at another version.
 fn page_young(s: &[u8], l: Limits, n: usize, w: u32) -> bool
-    requires { Edition l × (length s.now ≤ 2 ^ 21) × Ruled l.least s.now × IsPage l.least s.now n }
+    requires { (length s.now ≤ 2 ^ 21) × Ruled l.least s.now × IsPage l.least s.now n }
     ensures { result ≡ young_ok w (decode_page l.least (page_of l.least s.now n)) }
 {
     let p = store::part(s, l, n);
     let h = page::head_of(p, l);
-    if h.level == 0 {
-        return true;
-    }
-    if h.start != w {
-        return true;
-    }
-    all_young(p, h.count, w)
+    h.level == 0 || h.start != w || all_young(p, h.count, w)
 }
 
 fn pages_young(s: &[u8], l: Limits, h: Header, w: u32) -> bool
-    requires { Edition l × Held l.least s.now h }
+    requires { Held l.least s.now h }
     ensures { result ≡ all (young_ok w) (read_pages l.least s.now 5 (size_of l.least s.now - 5)) }
 {
-    let size = model::wide(h.pages);
-    let mut n = 5;
-    while n < size {
-        if !page_young(s, l, n, w) {
-            return false;
-        }
-        n += 1;
-    }
-    true
+    (5..h.pages as usize).all(|n| page_young(s, l, n, w))
 }
 
 pub fn seventh_rule(s: &[u8], l: Limits, h: Header) -> bool
-    requires { Edition l × Held l.least s.now h }
+    requires { Held l.least s.now h }
     ensures { result ≡ rule7 (decode l.least s.now) }
 {
-    if !h.opened {
-        return true;
-    }
-    let last = h.last();
-    pages_young(s, l, h, last)
+    !h.opened || pages_young(s, l, h, h.last())
 }

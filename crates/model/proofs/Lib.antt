@@ -1,3 +1,4 @@
+pub mod Edition
 pub mod lists
 pub mod older
 pub mod tree

@@ -2,7 +2,7 @@
 -- Assumes nothing.
 use Rattle.std.specs.Prelude.{ℕ, ◌+◌, true, List, [], ◌∷◌, ◌++◌, map, length, replicate}
 use Rattle.model.specs.Basic.{count, flat_map}
-use Rattle.model.specs.declared.Looked.TheVariants.{Value, Absent, Refused}
+use Rattle.model.specs.Looked.{Value, Absent, Refused}
 use Rattle.model.specs.Entry.{alive, pair, born}
 use Rattle.model.specs.Page.{free}
 use Rattle.model.specs.Store.{Store}

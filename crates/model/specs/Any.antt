@@ -2,10 +2,10 @@
 -- offered calls' contracts. By the limits of one edition they are Lent's.
 -- Assumes nothing.
 use Rattle.std.specs.Prelude.{ℕ, List}
-use Rattle.model.specs.declared.Looked.{Looked}
-use Rattle.model.specs.declared.Looked.TheVariants.{Refused}
-use Rattle.model.specs.declared.Verdict.{Verdict}
-use Rattle.model.specs.declared.State.{State}
+use Rattle.model.specs.Looked.{Looked}
+use Rattle.model.specs.Looked.{Refused}
+use Rattle.model.specs.Verdict.{Verdict}
+use Rattle.model.specs.State.{State}
 use Rattle.model.specs.Judged.{verdict, judged}
 use Rattle.model.specs.State.{untold}
 use Rattle.model.specs.Editions.{by_edition}

@@ -2,7 +2,7 @@
 -- Assumes nothing.
 use Rattle.std.specs.Prelude.{ℕ, ◌+◌, Bool, List, [], ◌∷◌, ◌++◌}
 use Rattle.model.specs.Basic.{count}
-use Rattle.model.specs.declared.Looked.TheVariants.{Value, Absent}
+use Rattle.model.specs.Looked.{Value, Absent}
 use Rattle.model.specs.Store.{Store, fresh}
 use Rattle.model.specs.Calls.{raw_insert}
 use Rattle.model.specs.Return.{gave}

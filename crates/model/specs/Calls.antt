@@ -7,8 +7,8 @@ use Rattle.model.specs.Basic.{those, pick, flat_map}
 use Rattle.model.specs.declared.Pair.{Pair}
 use Rattle.model.specs.declared.Entry.{Entry}
 use Rattle.model.specs.Entry.{pair, alive}
-use Rattle.model.specs.declared.Looked.{Looked}
-use Rattle.model.specs.declared.Looked.TheVariants.{Value, Absent, Refused}
+use Rattle.model.specs.Looked.{Looked}
+use Rattle.model.specs.Looked.{Value, Absent, Refused}
 use Rattle.model.specs.Page.{Page, free, active}
 use Rattle.model.specs.declared.Slot.{Slot}
 use Rattle.model.specs.Store.{Store, next, last}

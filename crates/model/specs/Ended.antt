@@ -4,9 +4,9 @@
 -- Assumes nothing.
 use Rattle.std.specs.Prelude.{ℕ, Bool, true, false, ◌≡◌, ◌⊎◌, List, [], ◌∷◌, eqb}
 use Rattle.model.specs.Basic.{all}
-use Rattle.model.specs.declared.Looked.{Looked}
-use Rattle.model.specs.declared.Verdict.{Verdict}
-use Rattle.model.specs.declared.State.{State}
+use Rattle.model.specs.Looked.{Looked}
+use Rattle.model.specs.Verdict.{Verdict}
+use Rattle.model.specs.State.{State}
 use Rattle.model.specs.Layout.{bit}
 use Rattle.model.specs.Judged.{judged}
 use Rattle.model.specs.Calls.{looked_number, looked_found, looked_value}

@@ -1,7 +1,7 @@
 -- 2026-07, "return to an earlier version": returns worked out by hand, the request's words one by one. A key's value is the key and 100.
 -- Assumes nothing.
 use Rattle.std.specs.Prelude.{List, [], ◌∷◌, ◌++◌}
-use Rattle.model.specs.declared.Looked.TheVariants.{Value, Absent, Refused}
+use Rattle.model.specs.Looked.{Value, Absent, Refused}
 use Rattle.model.specs.Store.{fresh}
 use Rattle.model.specs.Histories.{Call, begins, commits, inserts, deletes, returns, from}
 use Rattle.model.specs.Replay.{History, gives, live, looks, ranges, bytes_of}

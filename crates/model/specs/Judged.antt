@@ -8,7 +8,7 @@ use Rattle.model.specs.Layout.{magic, size_of, decode}
 use Rattle.model.specs.Clean.{clean}
 use Rattle.model.specs.Counted.{rule8}
 use Rattle.model.specs.Sound.{rule2, rule3, rule4, rule5, rule6, rule7, first_broken}
-use Rattle.model.specs.declared.Verdict.{Verdict}
+use Rattle.model.specs.Verdict.{Verdict}
 
 -- "length not 6 to 4,096 whole pages"
 unfoldable pub length_ok : ℕ → List ℕ → Bool

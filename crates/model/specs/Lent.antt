@@ -2,8 +2,8 @@
 -- Assumes nothing.
 use Rattle.std.specs.Prelude.{ℕ, zero, suc, List, ◌++◌, leb, length, drop}
 use Rattle.model.specs.Basic.{pick}
-use Rattle.model.specs.declared.Looked.{Looked}
-use Rattle.model.specs.declared.State.{State}
+use Rattle.model.specs.Looked.{Looked}
+use Rattle.model.specs.State.{State}
 use Rattle.model.specs.Store.{Store, fresh}
 use Rattle.model.specs.Layout.{size_of, encode, decode}
 use Rattle.model.specs.Judged.{length_ok, judged}

@@ -1,4 +1,5 @@
 pub mod Basic
+pub mod Bits
 pub mod Limits
 pub mod Entry
 pub mod Page
@@ -9,6 +10,8 @@ pub mod Same
 pub mod Sound
 pub mod Rules
 pub mod Climb
+pub mod Looked
+pub mod Verdict
 pub mod Calls
 pub mod Told
 pub mod Telling
@@ -31,6 +34,7 @@ pub mod Remade
 pub mod Judged
 pub mod Near
 pub mod Lent
+pub mod Refusals
 pub mod Editions
 pub mod Any
 pub mod Convert

@@ -1,49 +1,19 @@
 -- The limits of an edition, all from one number: least, the fewest live entries of a reached page that is no root. Edition 1 has 4.
 -- Assumes nothing.
-use Rattle.std.specs.Prelude.{ℕ, ◌*◌, ◌≤◌, ◌≡◌, leb}
-use Rattle.model.specs.Basic.{pick}
+use Rattle.std.specs.Prelude.{◌*◌, ◌≤◌, ◌≡◌}
 use Rattle.model.specs.declared.Limits.{Limits}
+pub use Rattle.model.specs.Bits.{count_bits, live_bits, live_shown, root_bits, oldest_bits, edition_of}
 
--- bits of a page's entry count: "entry count 5"
-abbrev pub count_bits : ℕ → ℕ
-count_bits least = pick (leb least 4) 5 6
-
--- bits of a page's live count (2026-09): "the six zero bits right after a page's end field"; "Edition 1 stays as it is", and has none
-abbrev pub live_bits : ℕ → ℕ
-live_bits least = pick (leb least 4) 0 6
-
--- what those bits show of a number: where there are none, they show 0
-abbrev pub live_shown : ℕ → ℕ → ℕ
-live_shown least n = pick (leb least 4) 0 n
-
--- bits of the header's number of roots: "number of roots 9"
-abbrev pub root_bits : ℕ → ℕ
-root_bits least = pick (leb least 4) 9 10
-
--- bits of the header's oldest version, which edition 1 does not have (2026-12: "20 bits after the root count")
-abbrev pub oldest_bits : ℕ → ℕ
-oldest_bits least = pick (leb least 4) 0 20
-
--- "edition 8 bits (1)"
-abbrev pub edition_of : ℕ → ℕ
-edition_of least = pick (leb least 4) 1 2
-
--- "Limits 4, 16 and 20 are 004's B/5, 4B/5 and B": with 8, under which a neighbour is gathered too, pages of 256 bytes and 256 slots
-abbrev pub limits : ℕ → Limits
-limits least = record {
-  least = least;
-  merge = 2 * least;
-  full = 4 * least;
-  room = 5 * least;
-  bytes = 64 * least;
-  slots = 64 * least;
-  counter = count_bits least;
-  rooter = root_bits least;
-  aged = oldest_bits least;
-}
-
--- limits that are those of an edition
+-- what each struct of limits holds: "Limits 4, 16 and 20 are 004's B/5, 4B/5 and B": with 8, under which a neighbour is gathered too, pages
+-- of 256 bytes and 256 slots
 pub record Edition (l : Limits) : Type 0 where
-  pub all : l ≡ limits l.least
   pub four : 4 ≤ l.least
   pub eight : l.least ≤ 8
+  pub merging : l.merge ≡ 2 * l.least
+  pub filling : l.full ≡ 4 * l.least
+  pub holding : l.room ≡ 5 * l.least
+  pub paging : l.bytes ≡ 64 * l.least
+  pub slotting : l.slots ≡ 64 * l.least
+  pub counting : l.counter ≡ count_bits l.least
+  pub rooting : l.rooter ≡ root_bits l.least
+  pub aging : l.aged ≡ oldest_bits l.least

@@ -4,8 +4,8 @@
 use Rattle.std.specs.Prelude.{ℕ, Bool, List, [], ◌∷◌, eqb}
 use Rattle.model.specs.Basic.{pick, all}
 use Rattle.model.specs.declared.Pair.{Pair}
-use Rattle.model.specs.declared.Looked.{Looked}
-use Rattle.model.specs.declared.Looked.TheVariants.{Refused}
+use Rattle.model.specs.Looked.{Looked}
+use Rattle.model.specs.Looked.{Refused}
 use Rattle.model.specs.Walk.{range_of}
 use Rattle.model.specs.Layout.{decode}
 use Rattle.model.specs.Judged.{judged}

@@ -5,7 +5,7 @@ use Rattle.std.specs.Prelude.{ℕ, zero, suc, Bool, false, ◌&&◌, not, List, 
 use Rattle.model.specs.Basic.{all, pick}
 use Rattle.model.specs.declared.Pair.{Pair}
 use Rattle.model.specs.declared.Slot.{Slot}
-use Rattle.model.specs.declared.Looked.{Looked}
+use Rattle.model.specs.Looked.{Looked}
 use Rattle.model.specs.Page.{is_free, pairs_at}
 use Rattle.model.specs.Store.{page, last}
 use Rattle.model.specs.Walk.{key_limit, root_at, height_of, around, followed, lookup, range_of}

@@ -3,7 +3,7 @@
 -- Assumes nothing.
 use Rattle.std.specs.Prelude.{Bool, true, ◌&&◌, List, [], ◌∷◌, ◌++◌, map, replicate}
 use Rattle.model.specs.Basic.{count}
-use Rattle.model.specs.declared.Looked.TheVariants.{Value, Absent, Refused}
+use Rattle.model.specs.Looked.{Value, Absent, Refused}
 use Rattle.model.specs.declared.Entry.{Entry}
 use Rattle.model.specs.Entry.{alive}
 use Rattle.model.specs.Page.{free}

@@ -6,7 +6,7 @@ use Rattle.model.specs.Basic.{count, flat_map, eq_list}
 use Rattle.model.specs.declared.Pair.{Pair}
 use Rattle.model.specs.declared.Entry.{Entry}
 use Rattle.model.specs.declared.Slot.{Slot}
-use Rattle.model.specs.declared.Looked.TheVariants.{Refused}
+use Rattle.model.specs.Looked.{Refused}
 use Rattle.model.specs.Entry.{alive, pair, born}
 use Rattle.model.specs.Page.{Page, free, filled}
 use Rattle.model.specs.Store.{Store, fresh}

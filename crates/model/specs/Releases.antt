@@ -2,7 +2,7 @@
 -- Assumes nothing.
 use Rattle.std.specs.Prelude.{List, [], ◌∷◌, ◌++◌}
 use Rattle.model.specs.Histories.{Call, commits, begins, abandons, inserts, deletes, from}
-use Rattle.model.specs.declared.Looked.TheVariants.{Value, Refused}
+use Rattle.model.specs.Looked.{Value, Refused}
 use Rattle.model.specs.Replay.{History, gives, root, live, looks, bytes_of}
 use Rattle.model.specs.Table.{insert_key, twenty, twenty_one, delete_from, reopened, history}
 

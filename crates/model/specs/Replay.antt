@@ -4,7 +4,7 @@ use Rattle.std.specs.Prelude.{ℕ, Bool, true, ◌&&◌, List, [], ◌∷◌, �
 use Rattle.model.specs.Basic.{eq_list, flat_map}
 use Rattle.model.specs.declared.Entry.{Entry}
 use Rattle.model.specs.declared.Slot.{Slot}
-use Rattle.model.specs.declared.Looked.{Looked}
+use Rattle.model.specs.Looked.{Looked}
 use Rattle.model.specs.Page.{Page, is_free}
 use Rattle.model.specs.Store.{Store, last, page}
 use Rattle.model.specs.Walk.{root_at, settings}

@@ -9,7 +9,7 @@ use Rattle.model.specs.Visited.{visits}
 use Rattle.model.specs.State.{state_of, state_numbers}
 use Rattle.model.specs.Histories.{inserts, deletes}
 use Rattle.model.specs.Replay.{History, gives, looks}
-use Rattle.model.specs.declared.Looked.TheVariants.{Value, Absent}
+use Rattle.model.specs.Looked.{Value, Absent}
 use Rattle.model.specs.Figures.{to, each, leaf, index, slot}
 use Rattle.model.specs.Pruned.{outside}
 

@@ -1,10 +1,20 @@
 -- What a store tells of itself: the call state, which an administrator asks of a file.
 -- Assumes nothing.
-use Rattle.std.specs.Prelude.{ℕ, false, List, [], ◌∷◌, length}
-use Rattle.model.specs.declared.State.{State}
+use Rattle.std.specs.Prelude.{ℕ, Bool, false, List, [], ◌∷◌, length}
 use Rattle.model.specs.Limits.{edition_of}
 use Rattle.model.specs.Store.{Store, free_ones}
 use Rattle.model.specs.Layout.{bit}
+
+-- "any result not named here is 0"
+pub record State : Type 0 where
+  pub number : ℕ
+  pub pages : ℕ
+  pub current : ℕ
+  pub opened : Bool
+  pub roots : ℕ
+  pub edition : ℕ
+  pub free : ℕ
+  pub oldest : ℕ
 
 -- The number of its pages, header and directory among them; the current version; whether an update is open; how many slots of the root
 -- directory are used; the edition, by its least; how many pages are free; the oldest version (2026-12).

@@ -2,7 +2,7 @@
 -- Assumes nothing.
 use Rattle.std.specs.Prelude.{ℕ, ◌+◌, Bool, List, [], ◌∷◌, ◌++◌, map}
 use Rattle.model.specs.Basic.{count}
-use Rattle.model.specs.declared.Looked.TheVariants.{Value, Absent}
+use Rattle.model.specs.Looked.{Value, Absent}
 use Rattle.model.specs.Store.{fresh}
 use Rattle.model.specs.Histories.{Call, begins, commits, abandons, inserts, deletes, After, from}
 use Rattle.model.specs.Replay.{History, gives, slots, root, keys, leads, holding, span, freed, live, looks, bytes_of}

@@ -2,10 +2,14 @@
 // records, so that code and definitions speak of the same things.
 #![tactic(auto)]
 
-ghost use Rattle.std.specs.Prelude.{◌≡◌, ◌^◌, ◌<◌};
-ghost use Rattle.model.specs.Limits.{edition_of, limits};
+mod refusal;
+
+ghost use Rattle.std.specs.Prelude.{◌≡◌, ◌^◌, ◌*◌, ◌<◌, ◌≤◌};
+ghost use Rattle.model.specs.Bits.{edition_of, count_bits, root_bits, oldest_bits};
 ghost use Rattle.model.specs.Store.{last_of};
 ghost use Rattle.model.specs.Header.{with_flag, with_version, with_roots, with_oldest};
+
+pub use refusal::{Fault, ListRefusal, Refusal};
 
 // In a leaf a setting, in an index page a router: its low key and the page below.
 #[derive(Clone, Copy)]
@@ -17,13 +21,14 @@ pub struct Entry {
 }
 
 // What an entry says of one version: a setting, or a router.
-#[derive(Clone, Copy)]
+#[derive(Clone, Copy, PartialEq, Eq)]
 pub struct Pair {
     pub key: u32,
     pub value: u32,
 }
 
-// What differs at a key between two versions: 0 added, 1 removed, 2 changed; the old value and the new, zero where there is none.
+// What differs at a key between two versions: 0 added, 1 removed, 2 changed; the old value and the new, zero where there is none. The kind
+// is a number, as it stands in the caller's list and in the definitions, whose record this is.
 #[derive(Clone, Copy)]
 pub struct Delta {
     pub key: u32,
@@ -58,18 +63,10 @@ pub struct Header {
     pub oldest: u32,
 }
 
-// What check gives: a number, and with 4 the lowest broken rule.
-#[derive(Clone, Copy)]
-pub struct Verdict {
-    pub number: u32,
-    pub rule: u32,
-}
-
 // What a store tells of itself: number of pages, current version, whether an update is open, slots used, edition, free pages, oldest
-// version; or the number of a refusal, and then all of them 0.
+// version.
 #[derive(Clone, Copy)]
 pub struct State {
-    pub number: u32,
     pub pages: u32,
     pub current: u32,
     pub opened: bool,
@@ -79,27 +76,12 @@ pub struct State {
     pub oldest: u32,
 }
 
-// What a lookup answers: the value, that the key is absent, or the number of a refusal.
-#[derive(Clone, Copy)]
-pub enum Looked {
-    Value(u32),
-    Absent,
-    Refused(u32),
-}
-
 // What a setting may be: "a whole number with its limits, a switch, or a level with its lowest and highest float".
 #[derive(Clone, Copy)]
 pub enum Kind {
     Whole(u32, u32),
     Switch,
     Level(f32, f32),
-}
-
-// What a table of kinds says of a key.
-#[derive(Clone, Copy)]
-pub enum Known {
-    Is(Kind),
-    Nothing,
 }
 
 // The limits of an edition: no other place in the code has them as numbers.
@@ -123,18 +105,21 @@ pub struct Limits {
     pub rooter: usize,
     // bits of the header's oldest version
     pub aged: usize,
-}
-
-// A number of the store as a place or a count in memory.
-pub fn wide(x: u32) -> usize
-    ensures { result ≡ x }
-{
-    x as usize
+    pub ghost four: { 4 ≤ least },
+    pub ghost eight: { least ≤ 8 },
+    pub ghost merging: { merge ≡ 2 * least },
+    pub ghost filling: { full ≡ 4 * least },
+    pub ghost holding: { room ≡ 5 * least },
+    pub ghost paging: { bytes ≡ 64 * least },
+    pub ghost slotting: { slots ≡ 64 * least },
+    pub ghost counting: { counter ≡ count_bits least },
+    pub ghost rooting: { rooter ≡ root_bits least },
+    pub ghost aging: { aged ≡ oldest_bits least },
 }
 
 // The limits of edition 1.
 pub fn edition_one() -> Limits
-    ensures one { result ≡ limits 4 }
+    ensures one { result.least ≡ 4 }
 {
     Limits {
         least: 4,
@@ -151,7 +136,7 @@ pub fn edition_one() -> Limits
 
 // The limits of edition 2.
 pub fn edition_two() -> Limits
-    ensures two { result ≡ limits 8 }
+    ensures two { result.least ≡ 8 }
 {
     Limits {
         least: 8,

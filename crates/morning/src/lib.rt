@@ -4,17 +4,7 @@
 ghost use Rattle.std.specs.Prelude.{◌<◌};
 ghost use Rattle.walk.specs.Sure.{Walkable};
 
-use model::{Limits, Looked};
-
-fn value_of(r: Looked) -> u64
-    ensures { result < 4294967296 }
-{
-    match r {
-        Looked::Value(x) => x as u64,
-        Looked::Absent => 0,
-        Looked::Refused(_) => 0,
-    }
-}
+use model::Limits;
 
 // The sum, modulo 2^32, of what n lookups find: of the key `from` and of every `step`th behind it, modulo the number of keys.
 fn look_on(s: &[u8], l: Limits, from: u32, step: u32, n: u32, v: u32) -> u64
@@ -23,11 +13,10 @@ fn look_on(s: &[u8], l: Limits, from: u32, step: u32, n: u32, v: u32) -> u64
     let mut key = from % 16777216;
     let stride = step % 16777216;
     let mut sum: u64 = 0;
-    let mut i = 0;
-    while i < n {
-        sum = (sum + value_of(walk::lookup(s, l, key, v))) % 4294967296;
+    for _ in 0..n {
+        let value = walk::lookup(s, l, key, v).unwrap_or(0);
+        sum = (sum + u64::from(value)) % 4294967296;
         key = (key + stride) % 16777216;
-        i += 1;
     }
     sum
 }
@@ -36,8 +25,8 @@ fn look_on(s: &[u8], l: Limits, from: u32, step: u32, n: u32, v: u32) -> u64
 #[unsafe(no_mangle)]
 pub extern "C" fn morning_lookups(s: &[u8], from: u32, step: u32, n: u32, version: u32) -> u64 {
     let l = model::edition_one();
-    if reads::guard_reading(s, l, false, version) != 0 {
-        return 0;
+    match reads::guard_reading(s, l, false, version) {
+        Ok(()) => look_on(s, l, from, step, n, version),
+        Err(_) => 0,
     }
-    look_on(s, l, from, step, n, version)
 }

@@ -7,50 +7,45 @@ mod ranging;
 ghost use Rattle.std.specs.Prelude.{◌≡◌};
 ghost use Rattle.model.specs.Named.{insert_named, delete_named, lookup_named, kind_named};
 ghost use Rattle.model.specs.Lent.{leaving};
+ghost use Rattle.model.specs.Refusals.{number_in, looked_in};
 
-use model::Looked;
+use model::Refusal;
 pub use ranging::range;
 
 // Inserts a setting in the open update, if its key is known and its value of the kind.
-pub fn insert(s: &mut [u8], table: &[u32], key: u32, value: u32) -> u32
-    ensures { leaving result s.new ≡ insert_named table.now s.old key value }
+pub fn insert(s: &mut [u8], table: &[u32], key: u32, value: u32) -> Result<(), Refusal>
+    ensures { leaving (number_in result) s.new ≡ insert_named table.now s.old key value }
 {
-    let n = kinds::allowed(kinds::kind_of(table, key), value);
-    if n != 0 {
-        return n;
-    }
+    kinds::allowed(kinds::kind_of(table, key), value)?;
     calls::insert(s, key, value)
 }
 
 // Deletes a setting in the open update, if its key is known.
-pub fn delete(s: &mut [u8], table: &[u32], key: u32) -> u32
-    ensures { leaving result s.new ≡ delete_named table.now s.old key }
+pub fn delete(s: &mut [u8], table: &[u32], key: u32) -> Result<(), Refusal>
+    ensures { leaving (number_in result) s.new ≡ delete_named table.now s.old key }
 {
-    let n = kinds::unknown(kinds::kind_of(table, key));
-    if n != 0 {
-        return n;
-    }
+    kinds::unknown(kinds::kind_of(table, key))?;
     calls::delete(s, key)
 }
 
 // What a viewer shows of a known key. The value is shown as it is, inside its kind's limits or not.
-pub fn lookup(s: &[u8], table: &[u32], key: u32, v: u32) -> Looked
-    ensures { result ≡ lookup_named table.now s.now key v }
+pub fn lookup(s: &[u8], table: &[u32], key: u32, v: u32) -> Result<Option<u32>, Refusal>
+    ensures { looked_in result ≡ lookup_named table.now s.now key v }
 {
-    let n = kinds::unknown(kinds::kind_of(table, key));
-    if n != 0 {
-        return Looked::Refused(n);
-    }
+    kinds::unknown(kinds::kind_of(table, key))?;
     viewer::view_value(s, v, key)
 }
 
 // What a viewer shows of a key of one kind: 0 a whole number, 1 a switch, 2 a level.
-pub fn lookup_kind(s: &[u8], table: &[u32], number: u32, key: u32, v: u32) -> Looked
-    ensures { result ≡ kind_named number table.now s.now key v }
+pub fn lookup_kind(
+    s: &[u8],
+    table: &[u32],
+    number: u32,
+    key: u32,
+    v: u32,
+) -> Result<Option<u32>, Refusal>
+    ensures { looked_in result ≡ kind_named number table.now s.now key v }
 {
-    let n = kinds::unlike(number, kinds::kind_of(table, key));
-    if n != 0 {
-        return Looked::Refused(n);
-    }
+    kinds::unlike(number, kinds::kind_of(table, key))?;
     viewer::view_value(s, v, key)
 }

@@ -2,14 +2,12 @@
 ghost use Rattle.std.specs.Prelude.{◌≡◌, ◌<◌};
 ghost use Rattle.model.specs.Walk.{key_limit, range_of};
 ghost use Rattle.model.specs.Layout.{decode};
-ghost use Rattle.model.specs.Limits.{Edition};
 ghost use Rattle.model.specs.Named.{all_known, range_named_by, range_named};
-ghost use Rattle.walk.specs.Counted.{with_list};
+ghost use Rattle.model.specs.Refusals.{listed_in};
 ghost use Rattle.walk.specs.Sure.{Walkable};
 
-use model::Limits;
+use model::{Limits, ListRefusal, Refusal};
 use store::edition_lent;
-use walk::Counted;
 
 // Whether each setting from low to high at a version has a known key. Each step goes on behind a setting of a sound store, whose keys rise.
 fn all_known(s: &[u8], l: Limits, table: &[u32], low: u32, high: u32, v: u32) -> bool
@@ -22,7 +20,7 @@ fn all_known(s: &[u8], l: Limits, table: &[u32], low: u32, high: u32, v: u32) ->
         if high < x.key {
             return true;
         }
-        if kinds::unknown(kinds::kind_of(table, x.key)) != 0 {
+        if kinds::kind_of(table, x.key).is_none() {
             return false;
         }
         key = x.key + 1;
@@ -39,38 +37,29 @@ fn range_in(
     high: u32,
     v: u32,
     list: &mut [u32],
-) -> Counted
-    requires { Edition l }
-    ensures { with_list result list.new
+) -> Result<usize, ListRefusal>
+    ensures { listed_in result list.new
         ≡ range_named_by l.least table.now s.now low high v list.old }
 {
-    let n = reads::guard_reading(s, l, near::guard::bad_range(low, high), v);
-    if n != 0 {
-        return Counted {
-            number: n,
-            count: 0,
-        };
-    }
+    reads::guard_reading(s, l, near::guard::bad_range(low, high), v)?;
     if !all_known(s, l, table, low, high, v) {
-        return Counted {
-            number: 17,
-            count: 0,
-        };
+        return Err(ListRefusal::Refused(Refusal::KeyUnknown));
     }
     near::range(s, l, low, high, v, list)
 }
 
 // The settings from low to high, both included, in key order, if each has a known key: their number, and key, value, key, value in the
 // caller's list.
-pub fn range(s: &[u8], table: &[u32], low: u32, high: u32, v: u32, list: &mut [u32]) -> Counted
-    ensures { with_list result list.new ≡ range_named table.now s.now low high v list.old }
+pub fn range(
+    s: &[u8],
+    table: &[u32],
+    low: u32,
+    high: u32,
+    v: u32,
+    list: &mut [u32],
+) -> Result<usize, ListRefusal>
+    ensures { listed_in result list.new ≡ range_named table.now s.now low high v list.old }
 {
-    let e = edition_lent(s);
-    if e.number != 0 {
-        return Counted {
-            number: e.number,
-            count: 0,
-        };
-    }
-    range_in(s, e.limits, table, low, high, v, list)
+    let l = edition_lent(s)?;
+    range_in(s, l, table, low, high, v, list)
 }

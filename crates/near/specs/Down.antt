@@ -1,7 +1,7 @@
 -- A lookup that judges each page it comes to: what it answers from a page on, and the laws of one step.
 use Rattle.std.specs.Prelude.{ℕ, Bool, not, List, [], ◌∷◌}
 use Rattle.std.proofs.Math.Option.{Option}
-use Rattle.model.specs.declared.Looked.{Looked}
+use Rattle.model.specs.Looked.{Looked}
 use Rattle.model.specs.Walk.{lookup}
 use Rattle.model.specs.Layout.{decode}
 use Rattle.model.specs.Calls.{rule, first_of, looked_by}

@@ -1,10 +1,9 @@
--- An answer found with `left` pages left to read: it is the right one where something is left still.
-use Rattle.std.specs.Prelude.{ℕ, ◌<◌, ◌≤◌, Bool, ◌≡◌}
-use Rattle.near.specs.declared.within.Within.{Within}
+-- What a walk judged with `left` visits left says: that it is right, with fewer left, or that it is wrong; where they are spent, nothing.
+use Rattle.std.specs.Prelude.{ℕ, ◌<◌, Bool, true, false, ◌≡◌, Result, Ok, Err}
+use Rattle.near.specs.declared.within.Unsettled.{Unsettled}
+use Rattle.near.specs.declared.within.Unsettled.TheVariants.{Wrong, Spent}
 
-abbrev pub found_as : Bool → ℕ → Within
-found_as fine left = record { fine = fine; left = left }
-
-pub record NearRight (left : ℕ) (x : Bool) (r : Within) : Type 0 where
-  pub less : r.left ≤ left
-  pub right : 0 < r.left → r.fine ≡ x
+abbrev pub NearRight : (left : ℕ) (x : Bool) → Result ℕ Unsettled → Type 0
+NearRight left x (Ok rest) = (rest < left) × (x ≡ true)
+NearRight left x (Err Wrong) = x ≡ false
+NearRight left x (Err Spent) = Unit {0}

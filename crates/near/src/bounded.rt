@@ -1,19 +1,18 @@
 // A range whose walk's budget is used up: by a table, which no bytes can keep busy.
 ghost use Rattle.std.specs.Prelude.{◌≡◌, true, pred, ◌+◌, ◌*◌, ◌^◌, ◌≤◌, ◌<◌, length};
-ghost use Rattle.model.specs.Limits.{Edition};
 ghost use Rattle.model.specs.Walk.{range_below};
 ghost use Rattle.model.specs.Layout.{decode};
 ghost use Rattle.model.specs.Near.{range_right};
 ghost use Rattle.local.specs.Right.{Known};
 ghost use Rattle.walk.specs.Written.{written, PairSpace};
-ghost use Rattle.walk.specs.Counted.{with_list};
+ghost use Rattle.model.specs.Refusals.{listed_in};
 ghost use Rattle.tabled.specs.Here.{Reads};
 ghost use Rattle.tabled.specs.Cells.{Table};
 ghost use Rattle.near.specs.Crossed.{crossed_from};
 
-use model::Limits;
+use model::{Limits, ListRefusal, Refusal};
 use tabled::Asked;
-use walk::{Counted, Query};
+use walk::Query;
 
 // The settings of a range that was found right, written at the start of the caller's list, by the same table.
 fn write_by(table: &[usize], s: &[u8], l: Limits, q: Asked, n: usize, level: u32, list: &mut [u32])
@@ -30,7 +29,7 @@ fn write_by(table: &[usize], s: &[u8], l: Limits, q: Asked, n: usize, level: u32
         version: q.version,
         write: true,
     };
-    let up = model::wide(level) - 1;
+    let up = level as usize - 1;
     tabled::gather_by(table, s, l, writing, n, up, q.low, list, 0);
 }
 
@@ -44,70 +43,39 @@ fn listed_by(
     n: usize,
     level: u32,
     list: &mut [u32],
-) -> Counted
-    requires { Edition l × Known l.least s.now q.size q.last × (length s.now ≤ 2 ^ 40) × (0 < level) × (level ≤ 7)
+) -> Result<usize, ListRefusal>
+    requires { Known l.least s.now q.size q.last × (length s.now ≤ 2 ^ 40) × (0 < level) × (level ≤ 7)
         × Table l.least s.now q.version q.low q.high ((level + 1) * 4096) table.now }
-    ensures { with_list result list.new
+    ensures { listed_in result list.new
         ≡ crossed_from l.least s.now q.low q.high q.version list.old level n }
 {
-    let w = tabled::down(s, l, q, table, n, level, q.low);
-    if w == 0 {
-        return Counted {
-            number: 4,
-            count: 0,
-        };
-    }
-    let found = w - 1;
+    let Some(found) = tabled::down(s, l, q, table, n, level, q.low).checked_sub(1) else {
+        return Err(ListRefusal::Refused(Refusal::NotSound));
+    };
     if list.len() < 2 * found {
-        return Counted {
-            number: 14,
-            count: found,
-        };
+        return Err(ListRefusal::TooShort(found));
     }
     write_by(table, s, l, q, n, level, list);
-    Counted {
-        number: 0,
-        count: found,
-    }
+    Ok(found)
 }
 
-fn filled(
-    table: &mut [usize],
+// The same by a table of its own, on the stack.
+fn by<const N: usize>(
     s: &[u8],
     l: Limits,
     q: Asked,
     n: usize,
     level: u32,
     list: &mut [u32],
-) -> Counted
-    requires { Edition l × Known l.least s.now q.size q.last × (length s.now ≤ 2 ^ 40) × (0 < level) × (level ≤ 7)
-        × (4096 * (5 * l.least + 1) ≤ length table.old) }
-    ensures { with_list result list.new
+) -> Result<usize, ListRefusal>
+    requires { Known l.least s.now q.size q.last × (length s.now ≤ 2 ^ 40) × (0 < level) × (level ≤ 7)
+        × (4096 * (5 * l.least + 1) ≤ N) × (N ≤ 2 ^ 20) }
+    ensures { listed_in result list.new
         ≡ crossed_from l.least s.now q.low q.high q.version list.old level n }
 {
-    tabled::fill_levels(table, s, l, q, level);
-    listed_by(table, s, l, q, n, level, list)
-}
-
-// 4,096 pages of 20 entries: 688 kB of the stack, which no sound store asks for.
-fn by_small(s: &[u8], l: Limits, q: Asked, n: usize, level: u32, list: &mut [u32]) -> Counted
-    requires { Edition l × Known l.least s.now q.size q.last × (length s.now ≤ 2 ^ 40) × (0 < level) × (level ≤ 7)
-        × (l.least ≤ 4) }
-    ensures { with_list result list.new
-        ≡ crossed_from l.least s.now q.low q.high q.version list.old level n }
-{
-    let mut table = [0; 86016];
-    filled(&mut table, s, l, q, n, level, list)
-}
-
-// 4,096 pages of 40 entries: 1.3 MB.
-fn by_large(s: &[u8], l: Limits, q: Asked, n: usize, level: u32, list: &mut [u32]) -> Counted
-    requires { Edition l × Known l.least s.now q.size q.last × (length s.now ≤ 2 ^ 40) × (0 < level) × (level ≤ 7) }
-    ensures { with_list result list.new
-        ≡ crossed_from l.least s.now q.low q.high q.version list.old level n }
-{
-    let mut table = [0; 167936];
-    filled(&mut table, s, l, q, n, level, list)
+    let mut table = [0; N];
+    tabled::fill_levels(&mut table, s, l, q, level);
+    listed_by(&table, s, l, q, n, level, list)
 }
 
 // What a range gives from page n, which is to have this level.
@@ -118,19 +86,18 @@ pub(crate) fn by_table(
     n: usize,
     level: u32,
     list: &mut [u32],
-) -> Counted
-    requires { Edition l × Known l.least s.now q.size q.last × (length s.now ≤ 2 ^ 40) × (0 < level) }
-    ensures { with_list result list.new
+) -> Result<usize, ListRefusal>
+    requires { Known l.least s.now q.size q.last × (length s.now ≤ 2 ^ 40) × (0 < level) }
+    ensures { listed_in result list.new
         ≡ crossed_from l.least s.now q.low q.high q.version list.old level n }
 {
     if 7 < level {
-        return Counted {
-            number: 4,
-            count: 0,
-        };
+        return Err(ListRefusal::Refused(Refusal::NotSound));
     }
+    // 4,096 pages of 20 entries, 688 kB of the stack, which no sound store asks for; or of 40, 1.3 MB.
     if l.least <= 4 {
-        return by_small(s, l, q, n, level, list);
+        by::<86016>(s, l, q, n, level, list)
+    } else {
+        by::<167936>(s, l, q, n, level, list)
     }
-    by_large(s, l, q, n, level, list)
 }

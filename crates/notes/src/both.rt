@@ -2,8 +2,7 @@
 // which either is broken, where `pass::broken` goes on behind a broken rule 5 to name 4. It leaves too where a page comes back whose note
 // ended while it was not reached: such a store breaks rule 6, and only by such pages can a pass take longer than in proportion to the
 // store (docs/CHECK-COST.md, argued).
-ghost use Rattle.std.specs.Prelude.{◌≡◌, ◌&&◌, ◌+◌, ◌≤◌};
-ghost use Rattle.model.specs.Limits.{Edition};
+ghost use Rattle.std.specs.Prelude.{◌≡◌, ◌&&◌, ◌+◌, ◌≤◌, IfOk};
 ghost use Rattle.model.specs.Layout.{read_header, decode};
 ghost use Rattle.model.specs.Sound.{rule4, rule5};
 ghost use Rattle.local.specs.Local.{IsPage, level_at};
@@ -16,59 +15,47 @@ ghost use Rattle.notes.specs.Both.{both_on};
 use crate::Note;
 use model::{Header, Limits};
 
-// What the pass tells: `away`, a version at which a page that came back was not reached, and then no more; or 0, and whether rules 4 and 5
-// hold.
-#[derive(Clone, Copy)]
-pub struct Both {
-    pub away: u32,
-    pub hold: bool,
-}
-
 // Both rules by a root's note.
 fn both_by(l: Limits, up: usize, x: Note) -> bool
     ensures { result ≡ (keys_by up x && full_by l.least up x) }
 {
-    if !crate::pass::keys_by(up, x) {
-        return false;
-    }
-    crate::pass::full_by(l, up, x)
+    crate::pass::keys_by(up, x) && crate::pass::full_by(l, up, x)
 }
 
-// The versions from a up to, not including, c, which have one root.
-fn both_on(notes: &mut [u32], s: &[u8], l: Limits, root: usize, up: usize, a: u32, c: u32) -> Both
-    requires { Edition l × Linked l.least s.now × IsPage l.least s.now root × (level_at l.least s.now root ≡ up + 1)
-        × (a ≤ c) × (c ≤ 1048575) × Kept l.least (decode l.least s.now).pages a notes.old
-        × ((read_header l.least s.now).oldest ≤ a) }
-    ensures { (result.away ≡ 0 → result.hold ≡ both_on l.least up (decode l.least s.now).pages root a c)
+// The versions from a up to, not including, c, which have one root: whether both rules hold, or the version at which a page that came back
+// was not reached.
+fn both_on(
+    notes: &mut [u32],
+    s: &[u8],
+    l: Limits,
+    root: usize,
+    up: usize,
+    a: u32,
+    c: u32,
+) -> Result<bool, u32>
+    requires { Linked l.least s.now × IsPage l.least s.now root × (level_at l.least s.now root ≡ up + 1) × (a ≤ c)
+        × (c ≤ 1048575) × Kept l.least (decode l.least s.now).pages a notes.old × ((read_header l.least s.now).oldest ≤ a) }
+    ensures { IfOk result (λ hold. hold ≡ both_on l.least up (decode l.least s.now).pages root a c)
         × Kept l.least (decode l.least s.now).pages c notes.new }
 {
     let mut v = a;
     while v < c {
         let x = crate::visit::visit(notes, s, l, up, v, root);
         if !both_by(l, up, x) {
-            return Both {
-                away: 0,
-                hold: false,
-            };
+            return Ok(false);
         }
         let away = crate::keep::away_in(notes);
         if away != 0 {
-            return Both {
-                away: away,
-                hold: false,
-            };
+            return Err(away);
         }
-        v = crate::step::smaller(x.until, c);
+        v = x.until.min(c);
     }
-    Both {
-        away: 0,
-        hold: true,
-    }
+    Ok(true)
 }
 
-fn both_over(notes: &mut [u32], s: &[u8], l: Limits, h: Header) -> Both
-    requires { Edition l × Ready l.least s.now h × Kept l.least (decode l.least s.now).pages h.oldest notes.old }
-    ensures { result.away ≡ 0 → result.hold ≡ (rule4 (decode l.least s.now) && rule5 l.least (decode l.least s.now)) }
+fn both_over(notes: &mut [u32], s: &[u8], l: Limits, h: Header) -> Result<bool, u32>
+    requires { Ready l.least s.now h × Kept l.least (decode l.least s.now).pages h.oldest notes.old }
+    ensures { IfOk result (λ hold. hold ≡ (rule4 (decode l.least s.now) && rule5 l.least (decode l.least s.now))) }
 {
     let end = h.last() + 1;
     let mut v = h.oldest;
@@ -76,25 +63,19 @@ fn both_over(notes: &mut [u32], s: &[u8], l: Limits, h: Header) -> Both
         let c = crate::slots::slot_change(s, l, h, v, end);
         let root = crate::slots::root_at(s, l, h, v);
         let up = crate::pass::height(s, l, root);
-        let b = both_on(notes, s, l, root, up, v, c);
-        if b.away != 0 {
-            return b;
-        }
-        if !b.hold {
-            return b;
+        let hold = both_on(notes, s, l, root, up, v, c)?;
+        if !hold {
+            return Ok(false);
         }
         v = c;
     }
-    Both {
-        away: 0,
-        hold: true,
-    }
+    Ok(true)
 }
 
-// Rules 4 and 5, where rules 1 to 3 hold.
-pub fn both_hold(s: &[u8], l: Limits, h: Header) -> Both
-    requires { Edition l × Ready l.least s.now h }
-    ensures { result.away ≡ 0 → result.hold ≡ (rule4 (decode l.least s.now) && rule5 l.least (decode l.least s.now)) }
+// Whether rules 4 and 5 hold, where rules 1 to 3 do; or the version at which a page that came back was not reached, and then no more.
+pub fn both_hold(s: &[u8], l: Limits, h: Header) -> Result<bool, u32>
+    requires { Ready l.least s.now h }
+    ensures { IfOk result (λ hold. hold ≡ (rule4 (decode l.least s.now) && rule5 l.least (decode l.least s.now))) }
 {
     let mut notes = [0; 20481];
     both_over(&mut notes, s, l, h)

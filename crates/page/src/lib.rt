@@ -6,7 +6,7 @@ use model::{Entry, Limits};
 pub mod words;
 
 ghost use Rattle.std.specs.Prelude.{◌≡◌, ◌+◌, ◌*◌, ◌-◌, ◌/◌, ◌%◌, ◌^◌, ◌≤◌, ◌<◌, length};
-ghost use Rattle.model.specs.Limits.{Edition, live_shown};
+ghost use Rattle.model.specs.Limits.{live_shown};
 ghost use Rattle.model.specs.Basic.{those};
 ghost use Rattle.model.specs.Field.{lay, zeros};
 ghost use Rattle.model.specs.Entry.{live_at};
@@ -36,7 +36,7 @@ fn front(page: &[u8], w: usize) -> Head
 {
     Head {
         level: bits::field(page, 0, 4),
-        count: model::wide(bits::field(page, 4, w)),
+        count: bits::field(page, 4, w) as usize,
         start: bits::field(page, 4 + w, 20),
         end: bits::field(page, 24 + w, 20),
     }
@@ -44,34 +44,33 @@ fn front(page: &[u8], w: usize) -> Head
 
 // The front of a page. The widths are said as numbers, so that a field is one load whatever limits come in.
 pub fn head_of(page: &[u8], l: Limits) -> Head
-    requires { Edition l × (16 ≤ length page.now) × (length page.now ≤ 2 ^ 40) }
+    requires { (16 ≤ length page.now) × (length page.now ≤ 2 ^ 40) }
     ensures { result ≡ read_head l.least page.now }
 {
     if l.least <= 4 {
-        return front(page, 5);
+        front(page, 5)
+    } else {
+        front(page, 6)
     }
-    front(page, 6)
 }
 
 // The live count of a page: where the edition has no bits for it, 0.
 pub fn live_of(page: &[u8], l: Limits) -> usize
-    requires { Edition l × (16 ≤ length page.now) × (length page.now ≤ 2 ^ 40) }
+    requires { (16 ≤ length page.now) × (length page.now ≤ 2 ^ 40) }
     ensures { result ≡ live_of l.least page.now }
 {
     if l.least <= 4 {
-        return 0;
+        0
+    } else {
+        bits::field(page, 44 + l.counter, 6) as usize
     }
-    model::wide(bits::field(page, 44 + l.counter, 6))
 }
 
 // What an entry adds to its page's live count.
 pub fn live_one(e: Entry) -> usize
     ensures { result ≡ live_one e }
 {
-    if e.end == ALIVE {
-        return 1;
-    }
-    0
+    usize::from(e.end == ALIVE)
 }
 
 // What entry i of a page adds to its live count.
@@ -79,11 +78,7 @@ fn live_at(page: &[u8], i: usize) -> usize
     requires { (16 + 12 * i + 12 ≤ length page.now) × (length page.now ≤ 2 ^ 40) }
     ensures { result ≡ live_one (read_entry page.now (128 + 96 * i)) }
 {
-    let end = bits::field(page, 128 + 96 * i + 44, 20);
-    if end == ALIVE {
-        return 1;
-    }
-    0
+    usize::from(bits::field(page, 128 + 96 * i + 44, 20) == ALIVE)
 }
 
 // How many of the first n entries of a page live.
@@ -92,19 +87,10 @@ pub fn live_among(page: &[u8], n: usize) -> usize
     ensures { result ≡ length (those lives (read_entries page.now 128 n)) }
 {
     let mut live = 0;
-    let mut i = 0;
-    while i < n {
+    for i in 0..n {
         live += live_at(page, i);
-        i += 1;
     }
     live
-}
-
-// The start of an entry: 8 bits that end its first word, and 12 that begin its second.
-fn start_of(a: u32, b: u32) -> u32
-    ensures { result ≡ a % 256 * 4096 + b / 1048576 }
-{
-    a % 256 * 4096 + b / 1048576
 }
 
 // Entry i of a page, by three words: its key, start and end are two of them.
@@ -117,7 +103,7 @@ pub fn entry_at(page: &[u8], i: usize) -> Entry
     let b = bits::four(page, o + 4);
     Entry {
         key: a / 256,
-        start: start_of(a, b),
+        start: a % 256 * 4096 + b / 1048576,
         end: b % 1048576,
         value: bits::four(page, o + 8),
     }
@@ -127,22 +113,14 @@ pub fn entry_at(page: &[u8], i: usize) -> Entry
 pub fn alive_at(e: Entry, v: u32) -> bool
     ensures { result ≡ live_at v e }
 {
-    if v < e.start {
-        return false;
-    }
-    v < e.end
+    e.start <= v && v < e.end
 }
 
 // Makes every byte zero.
 pub fn clear(page: &mut [u8])
     ensures { page.new ≡ zeros (length page.old) }
 {
-    let n = page.len();
-    let mut i = 0;
-    while i < n {
-        page[i] = 0;
-        i += 1;
-    }
+    page.fill(0);
 }
 
 // Writes the front of a page whose entry count has w bits.
@@ -158,47 +136,24 @@ fn put_front(page: &mut [u8], w: usize, h: Head)
 
 // Writes the front of a page: its live count is for `put_live`.
 pub fn put_head(page: &mut [u8], l: Limits, h: Head)
-    requires { Edition l × HeadFits l.least h × (16 ≤ length page.old) × (length page.old ≤ 2 ^ 40) }
+    requires { HeadFits l.least h × (16 ≤ length page.old) × (length page.old ≤ 2 ^ 40) }
     ensures { page.new ≡ put_head l.least page.old h }
 {
     if l.least <= 4 {
         put_front(page, 5, h);
-        return;
+    } else {
+        put_front(page, 6, h);
     }
-    put_front(page, 6, h);
 }
 
 // Writes the live count of a page, where the edition has bits for it.
 pub fn put_live(page: &mut [u8], l: Limits, n: usize)
-    requires { Edition l × (n < 64) × (16 ≤ length page.old) × (length page.old ≤ 2 ^ 40) }
+    requires { (n < 64) × (16 ≤ length page.old) × (length page.old ≤ 2 ^ 40) }
     ensures { page.new ≡ put_live l.least page.old (live_shown l.least n) }
 {
-    if l.least <= 4 {
-        return;
+    if l.least > 4 {
+        bits::put_field(page, 44 + l.counter, 6, n as u64);
     }
-    bits::put_field(page, 44 + l.counter, 6, n as u64);
-}
-
-fn long(x: u32) -> u64
-    ensures { result ≡ x }
-{
-    x as u64
-}
-
-// The first word of an entry: its key, and 8 bits of its start.
-fn first_of(key: u64, start: u64) -> u64
-    requires { (key < 2 ^ 24) × (start < 2 ^ 20) }
-    ensures { (result ≡ key * 256 + start / 4096) × (result < 2 ^ 32) }
-{
-    key * 256 + start / 4096
-}
-
-// The second: the other 12, and its end.
-fn second_of(start: u64, end: u64) -> u64
-    requires { (start < 2 ^ 20) × (end < 2 ^ 20) }
-    ensures { (result ≡ start % 4096 * 1048576 + end) × (result < 2 ^ 32) }
-{
-    start % 4096 * 1048576 + end
 }
 
 // Writes entry i of a page, by the same words.
@@ -207,10 +162,9 @@ pub fn put_entry(page: &mut [u8], i: usize, e: Entry)
     ensures { page.new ≡ lay page.old (128 + 96 * i) (entry_parts e) }
 {
     let o = 128 + 96 * i;
-    let a = first_of(long(e.key), long(e.start));
-    let b = second_of(long(e.start), long(e.end));
-    bits::put_field(page, o, 32, a);
-    bits::put_field(page, o + 32, 32, b);
+    let start = e.start as u64;
+    bits::put_field(page, o, 32, e.key as u64 * 256 + start / 4096);
+    bits::put_field(page, o + 32, 32, start % 4096 * 1048576 + e.end as u64);
     bits::put_field(page, o + 64, 32, e.value as u64);
 }
 
@@ -219,8 +173,7 @@ pub fn blank(page: &mut [u8], j: usize, n: usize)
     requires { (16 + 12 * n ≤ length page.old) × (length page.old ≤ 2 ^ 40) × (j ≤ n) }
     ensures { page.new ≡ blanked page.old j (n - j) }
 {
-    let mut k = j;
-    while k < n {
+    for k in j..n {
         put_entry(
             page,
             k,
@@ -231,42 +184,35 @@ pub fn blank(page: &mut [u8], j: usize, n: usize)
                 value: 0,
             },
         );
-        k += 1;
     }
 }
 
 // Puts e at place i of a page with room: those from i on move up by one, the last of them first. The live count is left as it was.
 fn slip_in(page: &mut [u8], l: Limits, i: usize, e: Entry)
-    requires { Edition l × Exact l.least page.old × (count_of l.least page.old < 5 * l.least)
-        × (i ≤ count_of l.least page.old) × FieldsFit e }
+    requires { Exact l.least page.old × (count_of l.least page.old < 5 * l.least) × (i ≤ count_of l.least page.old)
+        × FieldsFit e }
     ensures { page.new ≡ encode_with l.least (with_entry i e (decode_page l.least page.old))
         (live_of l.least page.old) }
 {
     let h = head_of(page, l);
-    let count = h.count;
-    let mut k = count;
-    while i < k {
-        words::copy_entry(page, k - 1, k);
-        k -= 1;
+    for k in (i..h.count).rev() {
+        words::copy_entry(page, k, k + 1);
     }
     put_entry(page, i, e);
-    let more = count + 1;
     put_head(
         page,
         l,
         Head {
-            level: h.level,
-            count: more,
-            start: h.start,
-            end: h.end,
+            count: h.count + 1,
+            ..h
         },
     );
 }
 
 // Inserts e at place i of a page with room, in place.
 pub fn insert_entry(page: &mut [u8], l: Limits, i: usize, e: Entry)
-    requires { Edition l × Exact l.least page.old × (count_of l.least page.old < 5 * l.least)
-        × (i ≤ count_of l.least page.old) × FieldsFit e }
+    requires { Exact l.least page.old × (count_of l.least page.old < 5 * l.least) × (i ≤ count_of l.least page.old)
+        × FieldsFit e }
     ensures { page.new ≡ encode_page l.least (with_entry i e (decode_page l.least page.old)) }
 {
     let live = live_of(page, l);

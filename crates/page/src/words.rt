@@ -11,7 +11,7 @@ pub fn first_word(page: &[u8], i: usize) -> usize
     requires { (16 + 12 * i + 12 ≤ length page.now) × (length page.now ≤ 2 ^ 40) }
     ensures { result ≡ field page.now (128 + 96 * i) 32 }
 {
-    model::wide(bits::four(page, 16 + 12 * i))
+    bits::four(page, 16 + 12 * i) as usize
 }
 
 // The second: the other 12, and its end.
@@ -19,7 +19,7 @@ pub fn second_word(page: &[u8], i: usize) -> usize
     requires { (16 + 12 * i + 12 ≤ length page.now) × (length page.now ≤ 2 ^ 40) }
     ensures { result ≡ field page.now (128 + 96 * i + 32) 32 }
 {
-    model::wide(bits::four(page, 20 + 12 * i))
+    bits::four(page, 20 + 12 * i) as usize
 }
 
 // The third: its value.
@@ -36,13 +36,10 @@ pub fn alive_in(page: &[u8], i: usize, v: u32) -> bool
     requires { (16 + 12 * i + 12 ≤ length page.now) × (length page.now ≤ 2 ^ 40) }
     ensures { result ≡ live_at v (read_entry page.now (128 + 96 * i)) }
 {
-    let a = model::wide(bits::one(page, 19 + 12 * i));
+    let a = bits::one(page, 19 + 12 * i) as usize;
     let b = second_word(page, i);
-    let w = model::wide(v);
-    if w * 1048576 + 1048576 <= a * 4294967296 + b {
-        return false;
-    }
-    w < b % 1048576
+    let w = v as usize;
+    a * 4294967296 + b < w * 1048576 + 1048576 && w < b % 1048576
 }
 
 // Whether entry i of a page may start or end at w: where the answer is false, it does neither. One word tells it.
@@ -51,15 +48,9 @@ pub fn may_turn(page: &[u8], i: usize, w: u32) -> bool
     ensures { result ≡ false → Apart w (read_entry page.now (128 + 96 * i)) }
 {
     let b = second_word(page, i);
-    let v = model::wide(w);
-    if (b + (1048576 - v)) % 1048576 == 0 {
-        return true;
-    }
+    let v = w as usize;
     let low = v % 4096 * 1048576;
-    if b < low {
-        return false;
-    }
-    b < low + 1048576
+    (b + (1048576 - v)) % 1048576 == 0 || low <= b && b < low + 1048576
 }
 
 // Writes entry i of a page at place j as well.
@@ -84,8 +75,7 @@ pub fn move_entry(page: &mut [u8], i: usize, j: usize)
     ensures { page.new
         ≡ lay page.old (128 + 96 * j) (entry_parts (read_entry page.old (128 + 96 * i))) }
 {
-    if i == j {
-        return;
+    if i != j {
+        copy_entry(page, i, j);
     }
-    copy_entry(page, i, j);
 }

@@ -14,19 +14,18 @@ pub fn size_of(s: &[u8], l: Limits) -> usize
     store::size(s, l)
 }
 
-// The first free page from page n on; the number of pages if there is none.
+// The first free page from page n on; the number of pages if there is none. The callers, and `Found`, compare it
+// with that number, so an Option would be no plainer.
 pub fn first_free(s: &[u8], l: Limits, n: usize, size: usize) -> usize
     requires { ExactBytes l s.now × (5 ≤ n) × (n ≤ size) × (size ≡ length (pages_of l s.now)) }
     ensures { Found (pages_of l s.now) n size result }
 {
-    let mut i = n;
-    while i < size {
+    for i in n..size {
         if crate::level_of(s, l, i) == 0 {
             return i;
         }
-        i += 1;
     }
-    i
+    size
 }
 
 // How many there are.
@@ -35,10 +34,8 @@ pub fn count_free(s: &[u8], l: Limits, size: usize) -> usize
     ensures { result ≡ length (free_ones (pages_of l s.now)) }
 {
     let mut n = 0;
-    let mut i = first_free(s, l, 5, size);
-    while i < size {
-        n += 1;
-        i = first_free(s, l, i + 1, size);
+    for i in 5..size {
+        n += usize::from(crate::level_of(s, l, i) == 0);
     }
     n
 }

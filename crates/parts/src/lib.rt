@@ -25,8 +25,7 @@ pub fn level_of(s: &[u8], l: Limits, n: usize) -> u32
     requires { ExactBytes l s.now × Inside l s.now n }
     ensures { result ≡ (page (pages_of l s.now) n).level }
 {
-    let h = page::head_of(store::part(s, l, n), l);
-    h.level
+    page::head_of(store::part(s, l, n), l).level
 }
 
 // "A page is active if it starts at the open version."
@@ -34,8 +33,7 @@ pub fn is_active(s: &[u8], l: Limits, n: usize, w: u32) -> bool
     requires { ExactBytes l s.now × Inside l s.now n }
     ensures { result ≡ active w (page (pages_of l s.now) n) }
 {
-    let h = page::head_of(store::part(s, l, n), l);
-    h.start == w
+    page::head_of(store::part(s, l, n), l).start == w
 }
 
 // The pairs alive at w.

@@ -50,6 +50,5 @@ pub fn fill_in(
         (set (pages_of l s.old) n (filled w level (take (to - from) (drop from (pairs_in g))))) }
 {
     let a = store::offset(l, n);
-    let list = g.list;
-    edit::fill(&mut s[a..a + l.bytes], l, level, w, list, from, to - from);
+    edit::fill(&mut s[a..a + l.bytes], l, level, w, g.list, from, to - from);
 }

@@ -14,11 +14,9 @@ use Rattle.model.specs.Calls.{is_some, rule, first_of, insert_tests, delete_test
 use Rattle.model.specs.Return.{return_tests}
 use Rattle.model.proofs.lists.Lists.{both_true}
 use Rattle.plain.specs.declared.State.{State}
-use Rattle.plain.specs.declared.Left.{Left}
 use Rattle.plain.specs.Plain.{Plain, Given, next, value_at, differs, unless, standing, holding, set_key, end_key, back_to, pruned, begin}
 use Rattle.plain.specs.Plain.{insert, delete, commit, abandon, return, prune}
 use Rattle.plain.specs.Items.{plain_of}
-use Rattle.plain.specs.Calls.{given_by, Opens}
 use Rattle.plain.specs.Guard.{state_of, state_numbers, are_versions, is_edition, is_state, longest, is_lent, read_plain, OpensGuarded}
 use Rattle.plain.specs.Guard.{StateAgain, LentAgain}
 use Rattle.plain.proofs.laws.Laid.{from-length}
@@ -127,13 +125,13 @@ module _ (p : Plain) (h : NumbersStand p) where
 
 -- ---- on what is lent: s is the state as the code has it
 
-pub state-again : (ms : List ℕ) (s : State) → s ≡ state_of ms → (r : Left) → Opens s r → (ms' : List ℕ) → ms' ≡ state_numbers r.state
-    → StateAgain ms ms'
-state-again ms s is r does ms' f e =
-    let own : NumbersStand (plain_of s []) = subst (λ (t : State). NumbersStand (plain_of t [])) (sym is) (state-stands [] ms e) in
-    let left : NumbersStand (plain_of r.state [])
-    = subst (λ (g : Given). NumbersStand g.plain) (sym (does [])) (begin-stands (plain_of s []) own) in
-    ap is_state f ∙ stands-state r.state [] left
+pub state-again : (ms : List ℕ) (s : State) → s ≡ state_of ms → (n : ℕ) (t : State)
+    → record { number = n; plain = plain_of t [] } ≡ begin (plain_of s []) → (ms' : List ℕ) → ms' ≡ state_numbers t → StateAgain ms ms'
+state-again ms s is n t does ms' f e =
+    let own : NumbersStand (plain_of s []) = subst (λ (u : State). NumbersStand (plain_of u [])) (sym is) (state-stands [] ms e) in
+    let left : NumbersStand (plain_of t [])
+    = subst (λ (g : Given). NumbersStand g.plain) (sym does) (begin-stands (plain_of s []) own) in
+    ap is_state f ∙ stands-state t [] left
 
 module _ (ns ms : List ℕ) (lent : is_lent ns ms ≡ true) (s : State) (is : s ≡ state_of ms) where
   abbrev own : Plain
@@ -144,17 +142,17 @@ module _ (ns ms : List ℕ) (lent : is_lent ns ms ≡ true) (s : State) (is : s 
       subst (λ (t : State). NumbersStand (plain_of t ns)) (sym is)
       (state-stands ns ms (both_true (is_state ms) (leb (length ns) longest && leb (4 * get_or ms 2 0) (length ns)) lent).0)
 
-  pub lent_again : (r : Left) (ns' : List ℕ) (g : Given) → given_by r ns' ≡ g → (NumbersStand own → NumbersStand g.plain)
-      → 4 * length g.plain.items ≤ length ns → length ns' ≡ length ns
-      → (ms' : List ℕ) → ms' ≡ state_numbers r.state → LentAgain ns ms ns' ms'
-  lent_again r ns' g does stands room same ms' f e =
-      let left : NumbersStand (plain_of r.state ns') = subst (λ (x : Given). NumbersStand x.plain) (sym does) (stands own-stands) in
+  pub lent_again : (n : ℕ) (t : State) (ns' : List ℕ) (g : Given) → record { number = n; plain = plain_of t ns' } ≡ g
+      → (NumbersStand own → NumbersStand g.plain) → 4 * length g.plain.items ≤ length ns → length ns' ≡ length ns
+      → (ms' : List ℕ) → ms' ≡ state_numbers t → LentAgain ns ms ns' ms'
+  lent_again n t ns' g does stands room same ms' f e =
+      let left : NumbersStand (plain_of t ns') = subst (λ (x : Given). NumbersStand x.plain) (sym does) (stands own-stands) in
       let few = ap (λ (x : Given). length x.plain.items) does in
-      let count = r.state.count in
+      let count = t.count in
       let fits : 4 * count ≤ length ns' = omega (arith, few, from-length ns' count, room, same) in
       let short : length ns' ≤ longest = omega (arith, same, (lent_fits ns ms lent).0) in (
         ap (is_lent ns') f ∙ ap (λ (b : Bool). b && (leb (length ns') longest && leb (4 * count) (length ns')))
-            (stands-state r.state ns' left)
+            (stands-state t ns' left)
             ∙ ap₂ (λ (a b : Bool). a && b) (le-leb (length ns') longest short) (le-leb (4 * count) (length ns') fits),
         same,
       )

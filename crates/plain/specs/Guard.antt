@@ -1,20 +1,24 @@
 -- The plain store as other languages lend it: any five numbers for a state, and any list. "No `requires`" there: what the calls ask is
 -- tested.
 -- Assumes nothing.
-use Rattle.std.specs.Prelude.{ℕ, ◌+◌, ◌*◌, Bool, true, false, ◌&&◌, ◌≡◌, List, [], ◌∷◌, leb, ltb, eqb, length, get_or}
+use Rattle.std.specs.Prelude.{ℕ, ◌+◌, ◌*◌, ◌^◌, ◌<◌, Bool, true, false, ◌&&◌, ◌≡◌, List, [], ◌∷◌, Result, Ok, Err, leb, ltb, eqb, length}
+use Rattle.std.specs.Prelude.{get_or}
+use Rattle.std.proofs.Math.Option.{Option}
 use Rattle.model.specs.Basic.{pick, those}
-use Rattle.model.specs.declared.Looked.{Looked}
-use Rattle.model.specs.declared.Looked.TheVariants.{Refused}
+use Rattle.model.specs.declared.refusal.Refusal.{Refusal}
+use Rattle.model.specs.declared.refusal.Refusal.TheVariants.{NotSound}
+use Rattle.model.specs.declared.refusal.ListRefusal.{ListRefusal}
+use Rattle.model.specs.Refusals.{list_number_of}
+use Rattle.model.specs.Looked.{Looked}
+use Rattle.model.specs.Looked.{Refused}
 use Rattle.model.specs.Layout.{bit}
-use Rattle.model.specs.Calls.{Ranged}
+use Rattle.model.specs.Calls.{is_some, Ranged}
 use Rattle.model.specs.Lent.{Listed, listed}
 use Rattle.model.specs.Return.{comes}
 use Rattle.plain.specs.declared.State.{State}
-use Rattle.plain.specs.declared.items.Found.{Found}
 use Rattle.plain.specs.Plain.{Plain, Given, next, differs, begin, insert, delete, commit, abandon, return, prune, lookup, range}
-use Rattle.plain.specs.Plain.{difference, life}
+use Rattle.plain.specs.Plain.{difference, life, same_value}
 use Rattle.plain.specs.Items.{plain_of}
-use Rattle.plain.specs.Scan.{same_found}
 
 -- ---- the five numbers: current version, 1 if an update is open, how many items, oldest version, edition
 
@@ -133,5 +137,32 @@ abbrev pub LentAgain : List ℕ → List ℕ → List ℕ → List ℕ → Type 
 LentAgain ns ms ns' ms' = is_lent ns ms ≡ true → (is_lent ns' ms' ≡ true) × (length ns' ≡ length ns)
 
 -- whether a key comes with a return: it has a value there, and not this one now
-abbrev pub comes_by : Found → Found → ℕ
-comes_by a b = pick (same_found a b) 0 (pick b.is 1 0)
+abbrev pub comes_by : Option ℕ → Option ℕ → ℕ
+comes_by a b = pick (same_value a b) 0 (pick (is_some b) 1 0)
+
+-- ---- what the code gives
+
+-- the number of a call that may lack room for its items
+abbrev pub list_number_in : {A : Type 0} → Result A ListRefusal → ℕ
+list_number_in (Ok x) = 0
+list_number_in (Err e) = list_number_of e
+
+-- the state that five numbers are
+pub record IsState (ms : List ℕ) (s : State) : Type 0 where
+  pub good : is_state ms ≡ true
+  pub state : s ≡ state_of ms
+  pub small : s.count < 2 ^ 32
+
+abbrev pub Reads : List ℕ → Result State Refusal → Type 0
+Reads ms (Ok s) = IsState ms s
+Reads ms (Err r) = (is_state ms ≡ false) × (r ≡ NotSound)
+
+-- and the list lent holds its items
+pub record Lends (ns ms : List ℕ) (s : State) : Type 0 where
+  pub lent : is_lent ns ms ≡ true
+  pub state : s ≡ state_of ms
+
+-- whether a call lacks room
+abbrev pub Fits : {A : Type 0} → Bool → Result A ListRefusal → Type 0
+Fits lack (Ok x) = lack ≡ false
+Fits lack (Err e) = (lack ≡ true) × (list_number_of e ≡ 14)

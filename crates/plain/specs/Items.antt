@@ -1,10 +1,8 @@
 -- The plain store as it is lent: its state, and the items in a list of numbers, four each.
-use Rattle.std.specs.Prelude.{ℕ, zero, suc, ◌+◌, ◌*◌, ◌-◌, ◌^◌, ◌≤◌, true, false, refl, List, [], ◌∷◌, length, get_or}
-use Rattle.std.proofs.Math.Option.{Option, none, some}
+use Rattle.std.specs.Prelude.{ℕ, zero, suc, ◌+◌, ◌*◌, ◌-◌, ◌^◌, ◌≤◌, refl, List, [], ◌∷◌, length, get_or}
 use Rattle.model.specs.declared.Entry.{Entry}
 use Rattle.model.specs.Telling.{Shape}
 use Rattle.plain.specs.declared.State.{State}
-use Rattle.plain.specs.declared.items.Found.{Found}
 use Rattle.plain.specs.Plain.{Plain}
 
 -- the item at a place
@@ -40,8 +38,3 @@ item_numbers e = e.key ∷ e.start ∷ e.end ∷ e.value ∷ []
 
 abbrev pub kept : Shape Entry
 kept = record { numbers = item_numbers; each = 4; size = λ e. refl }
-
--- "zero where there is none"
-abbrev pub found_of : Option ℕ → Found
-found_of none = record { is = false; value = 0 }
-found_of (some x) = record { is = true; value = x }

@@ -1,11 +1,10 @@
 -- A life as the code has it: how long a value lasts, and stretches told into the caller's list.
 use Rattle.std.specs.Prelude.{ℕ, ◌≤◌, ◌<◌, ◌&&◌, ◌≡◌, List, [], ◌∷◌, eqb}
-use Rattle.model.specs.Basic.{pick}
+use Rattle.std.proofs.Math.Option.{Option, none, some}
 use Rattle.model.specs.declared.Entry.{Entry}
 use Rattle.model.specs.declared.Stretch.{Stretch}
 use Rattle.model.specs.Entry.{live_at}
 use Rattle.model.specs.Still.{stretch}
-use Rattle.plain.specs.declared.items.Found.{Found}
 
 -- ---- how long nothing changes
 
@@ -17,5 +16,6 @@ pub record ItemStill (e : Entry) (k v r q : ℕ) : Type 0 where
 
 -- ---- what is told
 
-abbrev pub shown : ℕ → ℕ → Found → List Stretch
-shown v e a = pick a.is (stretch v e a.value ∷ []) []
+abbrev pub shown : ℕ → ℕ → Option ℕ → List Stretch
+shown v e none = []
+shown v e (some x) = stretch v e x ∷ []

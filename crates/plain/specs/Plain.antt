@@ -9,7 +9,7 @@ use Rattle.model.specs.Basic.{pick, flat_map, count, is_empty, those}
 use Rattle.model.specs.declared.Pair.{Pair}
 use Rattle.model.specs.declared.Entry.{Entry}
 use Rattle.model.specs.declared.Delta.{Delta}
-use Rattle.model.specs.declared.Looked.{Looked}
+use Rattle.model.specs.Looked.{Looked}
 use Rattle.model.specs.Entry.{pair, live_at, born, end_those}
 use Rattle.model.specs.Store.{last_of}
 use Rattle.model.specs.Walk.{key_limit}

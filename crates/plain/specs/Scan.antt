@@ -1,11 +1,9 @@
 -- From key to key. Laws of what is said of each key in turn, where keys between are silent.
-use Rattle.std.specs.Prelude.{ℕ, ◌≤◌, ◌<◌, Bool, false, ◌&&◌, not, ◌≡◌, List, eqb}
+use Rattle.std.specs.Prelude.{ℕ, ◌≤◌, ◌<◌, false, ◌&&◌, ◌≡◌, List, eqb}
 use Rattle.std.proofs.Math.Option.{none}
-use Rattle.model.specs.Basic.{pick}
 use Rattle.model.specs.declared.Entry.{Entry}
 use Rattle.model.specs.Entry.{live_at}
 use Rattle.model.specs.Walk.{key_limit}
-use Rattle.plain.specs.declared.items.Found.{Found}
 use Rattle.plain.specs.Plain.{value_at}
 
 -- ---- the next key
@@ -22,8 +20,3 @@ pub record SkipsKeys (a r u v : ℕ) (es : List Entry) : Type 0 where
   pub within : r ≤ key_limit
   pub old : (k : ℕ) → a ≤ k → k < r → value_at k u es ≡ none
   pub new : (k : ℕ) → a ≤ k → k < r → value_at k v es ≡ none
-
--- ---- two that are found
-
-abbrev pub same_found : Found → Found → Bool
-same_found a b = pick a.is (pick b.is (eqb a.value b.value) false) (not b.is)

@@ -1,5 +1,5 @@
 // A return: "first it deletes keys absent there or with another value, then it inserts what is missing, each in rising key order". No step
-// can be refused here.
+// can be refused here. Each pass has its own loop: to a closure for the step the list is lent anew, and what it asks changes with the list.
 ghost use Rattle.std.specs.Prelude.{◌*◌, ◌≤◌, length};
 ghost use Rattle.model.specs.Basic.{count};
 ghost use Rattle.plain.specs.Plain.{keys, end_other, set_missing, in_turn};
@@ -16,10 +16,10 @@ fn end_other(items: &mut [u32], n: usize, w: u32, v: u32, key: u32) -> usize
 {
     let a = items::value_at(items, n, key, w);
     let b = items::value_at(items, n, key, v);
-    if scan::same(a, b) {
+    if a == b {
         return n;
     }
-    sweep::sweep(items, n, w, false, key)
+    sweep::sweep(items, n, |e| sweep::ended(e, w, key))
 }
 
 pub fn end_others(items: &mut [u32], n: usize, w: u32, v: u32) -> usize
@@ -40,26 +40,30 @@ fn set_one(items: &mut [u32], n: usize, w: u32, v: u32, key: u32) -> usize
     requires { Lent n items.old × (4 * length (set_missing w v key (from items.old 0 n)) ≤ length items.old) }
     ensures { Turned (set_missing w v key) items.old n items.new result }
 {
-    let a = items::value_at(items, n, key, w);
-    if a.is {
+    if items::value_at(items, n, key, w).is_some() {
         return n;
     }
-    let b = items::value_at(items, n, key, v);
-    if b.is {
-        let e = Entry {
-            key: key,
-            start: w,
-            end: ALIVE,
-            value: b.value,
-        };
-        items::put(items, n, e);
-        return n + 1;
+    match items::value_at(items, n, key, v) {
+        Some(value) => {
+            items::put(
+                items,
+                n,
+                Entry {
+                    key,
+                    start: w,
+                    end: ALIVE,
+                    value,
+                },
+            );
+            n + 1
+        }
+        None => n,
     }
-    n
 }
 
 pub fn set_missing(items: &mut [u32], n: usize, w: u32, v: u32) -> usize
-    requires { Lent n items.old × (4 * length (in_turn (set_missing w v) (count 0 keys) (from items.old 0 n)) ≤ length items.old) }
+    requires { Lent n items.old
+        × (4 * length (in_turn (set_missing w v) (count 0 keys) (from items.old 0 n)) ≤ length items.old) }
     ensures { Turned (in_turn (set_missing w v) (count 0 keys)) items.old n items.new result }
 {
     let mut m = n;

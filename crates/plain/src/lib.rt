@@ -15,12 +15,12 @@ ghost use Rattle.std.specs.Prelude.{◌≡◌, ◌≤◌, length};
 ghost use Rattle.model.specs.Store.{last_of};
 ghost use Rattle.model.specs.Calls.{beyond, bad_range};
 ghost use Rattle.model.specs.Lent.{listed};
+ghost use Rattle.model.specs.Refusals.{looked_in, listed_in};
 ghost use Rattle.plain.specs.Plain.{insert, delete, commit, abandon, return, prune, lookup, range, difference, life};
 ghost use Rattle.plain.specs.Items.{plain_of, ItemsHeld};
-ghost use Rattle.plain.specs.Tell.{told_as, told_with};
-ghost use Rattle.plain.specs.Calls.{given_by, left_with, Room, Opens};
+ghost use Rattle.plain.specs.Calls.{given_by, Room, Opens};
 
-use model::{Entry, Looked};
+use model::{Entry, ListRefusal, Refusal};
 
 // Keys are below this.
 pub const KEYS: u32 = 16777216;
@@ -46,317 +46,240 @@ impl State {
         requires { self.current ≤ 1048574 }
         ensures { result ≡ last_of self.opened self.current }
     {
-        if self.opened {
-            return self.current + 1;
-        }
-        self.current
+        self.current + u32::from(self.opened)
     }
 
-    // 6 of a reading: above last, or below the oldest.
+    // 6 of a reading: above last, or below the oldest. This machine shares the definitions with the engine, and no code: so too below.
     fn unreadable(self, v: u32) -> bool
         requires { self.current ≤ 1048574 }
         ensures { result ≡ beyond (last_of self.opened self.current) self.oldest v }
     {
-        if self.last() < v {
-            return true;
-        }
-        v < self.oldest
+        self.last() < v || v < self.oldest
     }
 
     // 6 of a return and of a prune: above the current version, or below the oldest.
     fn uncommitted(self, v: u32) -> bool
         ensures { result ≡ beyond self.current self.oldest v }
     {
-        if self.current < v {
-            return true;
-        }
-        v < self.oldest
+        self.current < v || v < self.oldest
     }
 }
 
-// What a call gave, and the state after it.
-#[derive(Clone, Copy)]
-pub struct Left {
-    pub number: u32,
-    pub state: State,
-}
-
-// What a call that tells a list gave, and how many things there are.
-#[derive(Clone, Copy)]
-pub struct Told {
-    pub number: u32,
-    pub count: usize,
-}
-
-fn told_as(number: u32, count: usize) -> Told
-    ensures { result ≡ told_as number count }
-{
-    Told {
-        number: number,
-        count: count,
-    }
-}
-
-// "Every number but 0 leaves store and list untouched."
-fn refused(number: u32, s: State) -> Left
-    ensures { result ≡ left_with number s s.count }
-{
-    Left {
-        number: number,
-        state: s,
-    }
-}
-
-// Done, with so many items.
-fn done(s: State, n: usize) -> Left
-    ensures { result ≡ left_with 0 s n }
-{
-    Left {
-        number: 0,
-        state: State {
-            current: s.current,
-            opened: s.opened,
-            count: n,
-            oldest: s.oldest,
-            edition: s.edition,
-        },
-    }
-}
-
-pub fn open(s: State) -> Left
+pub fn open(s: State) -> Result<State, Refusal>
     ensures { Opens s result }
 {
     if s.opened {
-        return refused(8, s);
+        return Err(Refusal::UpdateAlreadyOpen);
     }
     if 1048574 <= s.current {
-        return refused(9, s);
+        return Err(Refusal::VersionsUsedUp);
     }
-    Left {
-        number: 0,
-        state: State {
-            current: s.current,
-            opened: true,
-            count: s.count,
-            oldest: s.oldest,
-            edition: s.edition,
-        },
-    }
+    Ok(State { opened: true, ..s })
 }
 
-pub fn insert(items: &mut [u32], s: State, key: u32, value: u32) -> Left
+pub fn insert(items: &mut [u32], s: State, key: u32, value: u32) -> Result<State, Refusal>
     requires { ItemsHeld s items.old × Room (insert (plain_of s items.old) key value) items.old }
-    ensures { given_by result items.new ≡ insert (plain_of s items.old) key value }
+    ensures { given_by s result items.new ≡ insert (plain_of s items.old) key value }
 {
     if BENCH <= key {
-        return refused(5, s);
+        return Err(Refusal::KeyTooLarge);
     }
     if !s.opened {
-        return refused(7, s);
+        return Err(Refusal::NoUpdateOpen);
     }
     let w = s.current + 1;
-    let a = items::value_at(items, s.count, key, w);
-    if a.is {
-        return refused(10, s);
+    if items::value_at(items, s.count, key, w).is_some() {
+        return Err(Refusal::KeyAlive);
     }
-    let e = Entry {
-        key: key,
-        start: w,
-        end: ALIVE,
-        value: value,
-    };
-    items::put(items, s.count, e);
-    done(s, s.count + 1)
+    items::put(
+        items,
+        s.count,
+        Entry {
+            key,
+            start: w,
+            end: ALIVE,
+            value,
+        },
+    );
+    Ok(State {
+        count: s.count + 1,
+        ..s
+    })
 }
 
-pub fn delete(items: &mut [u32], s: State, key: u32) -> Left
+pub fn delete(items: &mut [u32], s: State, key: u32) -> Result<State, Refusal>
     requires { ItemsHeld s items.old }
-    ensures { given_by result items.new ≡ delete (plain_of s items.old) key }
+    ensures { given_by s result items.new ≡ delete (plain_of s items.old) key }
 {
     if KEYS <= key {
-        return refused(5, s);
+        return Err(Refusal::KeyTooLarge);
     }
     if !s.opened {
-        return refused(7, s);
+        return Err(Refusal::NoUpdateOpen);
     }
     let w = s.current + 1;
-    let a = items::value_at(items, s.count, key, w);
-    if !a.is {
-        return refused(11, s);
+    if items::value_at(items, s.count, key, w).is_none() {
+        return Err(Refusal::KeyNotAlive);
     }
-    let n = sweep::sweep(items, s.count, w, false, key);
-    done(s, n)
+    let count = sweep::sweep(items, s.count, |e| sweep::ended(e, w, key));
+    Ok(State { count, ..s })
 }
 
-pub fn abandon(items: &mut [u32], s: State) -> Left
+pub fn abandon(items: &mut [u32], s: State) -> Result<State, Refusal>
     requires { ItemsHeld s items.old }
-    ensures { given_by result items.new ≡ abandon (plain_of s items.old) }
+    ensures { given_by s result items.new ≡ abandon (plain_of s items.old) }
 {
     if !s.opened {
-        return refused(7, s);
+        return Err(Refusal::NoUpdateOpen);
     }
-    let n = sweep::sweep(items, s.count, s.current + 1, true, 0);
-    Left {
-        number: 0,
-        state: State {
-            current: s.current,
-            opened: false,
-            count: n,
-            oldest: s.oldest,
-            edition: s.edition,
-        },
-    }
+    let w = s.current + 1;
+    let count = sweep::sweep(items, s.count, |e| sweep::undone(e, w));
+    Ok(State {
+        opened: false,
+        count,
+        ..s
+    })
 }
 
 // 15 where nothing differs from the current version.
-pub fn commit(items: &[u32], s: State) -> Left
+pub fn commit(items: &[u32], s: State) -> Result<State, Refusal>
     requires { ItemsHeld s items.now }
-    ensures { given_by result items.now ≡ commit (plain_of s items.now) }
+    ensures { given_by s result items.now ≡ commit (plain_of s items.now) }
 {
     if !s.opened {
-        return refused(7, s);
+        return Err(Refusal::NoUpdateOpen);
     }
     let w = s.current + 1;
     if scan::same_settings(items, s.count, s.current, w) {
-        return refused(15, s);
+        return Err(Refusal::NothingChanged);
     }
-    Left {
-        number: 0,
-        state: State {
-            current: w,
-            opened: false,
-            count: s.count,
-            oldest: s.oldest,
-            edition: s.edition,
-        },
-    }
+    Ok(State {
+        current: w,
+        opened: false,
+        ..s
+    })
 }
 
-pub fn return_to(items: &mut [u32], s: State, v: u32) -> Left
+pub fn return_to(items: &mut [u32], s: State, v: u32) -> Result<State, Refusal>
     requires { ItemsHeld s items.old × Room (return (plain_of s items.old) v) items.old }
-    ensures { given_by result items.new ≡ return (plain_of s items.old) v }
+    ensures { given_by s result items.new ≡ return (plain_of s items.old) v }
 {
     if s.uncommitted(v) {
-        return refused(6, s);
+        return Err(Refusal::VersionAboveLast);
     }
     if !s.opened {
-        return refused(7, s);
+        return Err(Refusal::NoUpdateOpen);
     }
     let w = s.current + 1;
     let n = back::end_others(items, s.count, w, v);
-    let m = back::set_missing(items, n, w, v);
-    done(s, m)
+    let count = back::set_missing(items, n, w, v);
+    Ok(State { count, ..s })
 }
 
 // What ended at or before v goes.
-pub fn prune(items: &mut [u32], s: State, v: u32) -> Left
+pub fn prune(items: &mut [u32], s: State, v: u32) -> Result<State, Refusal>
     requires { ItemsHeld s items.old }
-    ensures { given_by result items.new ≡ prune (plain_of s items.old) v }
+    ensures { given_by s result items.new ≡ prune (plain_of s items.old) v }
 {
     if s.edition == 1 {
-        return refused(3, s);
+        return Err(Refusal::WrongEdition);
     }
     if s.uncommitted(v) {
-        return refused(6, s);
+        return Err(Refusal::VersionAboveLast);
     }
     if s.opened {
-        return refused(8, s);
+        return Err(Refusal::UpdateAlreadyOpen);
     }
-    let n = sweep::drop_ended(items, s.count, v);
-    Left {
-        number: 0,
-        state: State {
-            current: s.current,
-            opened: s.opened,
-            count: n,
-            oldest: v,
-            edition: s.edition,
-        },
-    }
+    let count = sweep::sweep(items, s.count, |e| sweep::outliving(e, v));
+    Ok(State {
+        count,
+        oldest: v,
+        ..s
+    })
 }
 
-pub fn lookup(items: &[u32], s: State, key: u32, v: u32) -> Looked
+pub fn lookup(items: &[u32], s: State, key: u32, v: u32) -> Result<Option<u32>, Refusal>
     requires { ItemsHeld s items.now }
-    ensures { result ≡ lookup (plain_of s items.now) key v }
+    ensures { looked_in result ≡ lookup (plain_of s items.now) key v }
 {
     if KEYS <= key {
-        return Looked::Refused(5);
+        return Err(Refusal::KeyTooLarge);
     }
     if s.unreadable(v) {
-        return Looked::Refused(6);
+        return Err(Refusal::VersionAboveLast);
     }
-    let a = items::value_at(items, s.count, key, v);
-    if a.is {
-        return Looked::Value(a.value);
-    }
-    Looked::Absent
+    Ok(items::value_at(items, s.count, key, v))
 }
 
 // 5 of a range: a key too large, or low above high.
 fn bad_range(low: u32, high: u32) -> bool
     ensures { result ≡ bad_range low high }
 {
-    if KEYS <= low {
-        return true;
-    }
-    if KEYS <= high {
-        return true;
-    }
-    high < low
+    KEYS <= low || KEYS <= high || high < low
 }
 
 // The settings are counted before any is written, so that 14 leaves the list untouched.
-pub fn range(items: &[u32], s: State, low: u32, high: u32, v: u32, list: &mut [u32]) -> Told
+pub fn range(
+    items: &[u32],
+    s: State,
+    low: u32,
+    high: u32,
+    v: u32,
+    list: &mut [u32],
+) -> Result<usize, ListRefusal>
     requires { ItemsHeld s items.now }
-    ensures { told_with result list.new
+    ensures { listed_in result list.new
         ≡ listed list.old (range (plain_of s items.now) low high v (length list.old)) }
 {
     if bad_range(low, high) {
-        return told_as(5, 0);
+        return Err(ListRefusal::Refused(Refusal::KeyTooLarge));
     }
     if s.unreadable(v) {
-        return told_as(6, 0);
+        return Err(ListRefusal::Refused(Refusal::VersionAboveLast));
     }
     let found = tell::tell_settings(items, s.count, low, high, v, list, false);
     if list.len() < 2 * found {
-        return told_as(14, found);
+        return Err(ListRefusal::TooShort(found));
     }
     tell::tell_settings(items, s.count, low, high, v, list, true);
-    told_as(0, found)
+    Ok(found)
 }
 
-pub fn difference(items: &[u32], s: State, u: u32, v: u32, list: &mut [u32]) -> Told
+pub fn difference(
+    items: &[u32],
+    s: State,
+    u: u32,
+    v: u32,
+    list: &mut [u32],
+) -> Result<usize, ListRefusal>
     requires { ItemsHeld s items.now }
-    ensures { told_with result list.new
+    ensures { listed_in result list.new
         ≡ listed list.old (difference (plain_of s items.now) u v (length list.old)) }
 {
-    if s.unreadable(u) {
-        return told_as(6, 0);
-    }
-    if s.unreadable(v) {
-        return told_as(6, 0);
+    if s.unreadable(u) || s.unreadable(v) {
+        return Err(ListRefusal::Refused(Refusal::VersionAboveLast));
     }
     let found = tell::tell_differences(items, s.count, u, v, list, false);
     if list.len() < 4 * found {
-        return told_as(14, found);
+        return Err(ListRefusal::TooShort(found));
     }
     tell::tell_differences(items, s.count, u, v, list, true);
-    told_as(0, found)
+    Ok(found)
 }
 
 // The life of a key from the oldest version on; "an open update is not shown".
-pub fn life_of(items: &[u32], s: State, key: u32, list: &mut [u32]) -> Told
+pub fn life_of(items: &[u32], s: State, key: u32, list: &mut [u32]) -> Result<usize, ListRefusal>
     requires { ItemsHeld s items.now }
-    ensures { told_with result list.new
+    ensures { listed_in result list.new
         ≡ listed list.old (life (plain_of s items.now) key (length list.old)) }
 {
     if KEYS <= key {
-        return told_as(5, 0);
+        return Err(ListRefusal::Refused(Refusal::KeyTooLarge));
     }
     let found = life::tell_life(items, s.count, key, s.oldest, s.current, list, false);
     if list.len() < 3 * found {
-        return told_as(14, found);
+        return Err(ListRefusal::TooShort(found));
     }
     life::tell_life(items, s.count, key, s.oldest, s.current, list, true);
-    told_as(0, found)
+    Ok(found)
 }

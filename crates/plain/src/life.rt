@@ -1,31 +1,25 @@
 // The life of a key: from change to change, and not version by version.
-ghost use Rattle.std.specs.Prelude.{◌≡◌, [], ◌∷◌, ◌*◌, ◌≤◌, ◌<◌, ltb, length};
+ghost use Rattle.std.specs.Prelude.{◌≡◌, ◌*◌, ◌≤◌, ◌<◌, ltb, length};
 ghost use Rattle.model.specs.Basic.{pick};
 ghost use Rattle.model.specs.Entry.{alive};
 ghost use Rattle.model.specs.Life.{life_of};
 ghost use Rattle.model.specs.Inner.{Lasts};
-ghost use Rattle.model.specs.Telling.{written, Space, Gathers};
+ghost use Rattle.model.specs.Refusals.{found_in};
+ghost use Rattle.model.specs.Telling.{Space, Gathers};
 ghost use Rattle.plain.specs.Plain.{value_at};
-ghost use Rattle.plain.specs.Items.{from, found_of};
+ghost use Rattle.plain.specs.Items.{from};
 ghost use Rattle.model.specs.Still.{stretches, Sooner, Until};
 ghost use Rattle.plain.specs.Lived.{ItemStill, shown};
 
-use crate::items::Found;
-use crate::{ALIVE, items, scan};
-use model::{Entry, Stretch};
+use crate::{ALIVE, items, tell};
+use model::Entry;
 
-// r, or x where it stands between v and r.
+// r, or x where it stands between v and r. The crates life and notes have their own, since this one uses model alone.
 fn sooner(v: u32, r: u32, x: u32) -> u32
     requires { v < r }
     ensures { Sooner v r x result }
 {
-    if x <= v {
-        return r;
-    }
-    if r <= x {
-        return r;
-    }
-    x
+    if v < x { r.min(x) } else { r }
 }
 
 // r, or where the item starts or ends before r, behind v, if it is the key's.
@@ -45,28 +39,23 @@ fn next_change(items: &[u32], n: usize, key: u32, v: u32, r: u32) -> u32
     ensures { Until v r (λ w. value_at key w (from items.now 0 n)) result }
 {
     let mut q = r;
-    let mut i = n;
-    while 0 < i {
-        i -= 1;
-        let e = items::item(items, i);
-        q = change_of(e, key, v, q);
+    for i in (0..n).rev() {
+        q = change_of(items::item(items, i), key, v, q);
     }
     q
 }
 
 // The first version behind v at which the key has another value, or the first behind c.
-fn change_after(items: &[u32], n: usize, key: u32, v: u32, c: u32, was: Found) -> u32
-    requires { (4 * n ≤ length items.now) × (c ≤ 1048574) × (v ≤ c) × (was ≡ found_of (value_at key v (from items.now 0 n))) }
+fn change_after(items: &[u32], n: usize, key: u32, v: u32, c: u32, was: Option<u32>) -> u32
+    requires { (4 * n ≤ length items.now) × (c ≤ 1048574) × (v ≤ c) × (found_in was ≡ value_at key v (from items.now 0 n)) }
     ensures { Lasts c (λ w. value_at key w (from items.now 0 n)) v result }
 {
     let mut u = next_change(items, n, key, v, c + 1);
     while u <= c {
-        let a = items::value_at(items, n, key, u);
-        if scan::same(was, a) {
-            u = next_change(items, n, key, u, c + 1);
-        } else {
+        if items::value_at(items, n, key, u) != was {
             return u;
         }
+        u = next_change(items, n, key, u, c + 1);
     }
     u
 }
@@ -75,38 +64,28 @@ fn change_after(items: &[u32], n: usize, key: u32, v: u32, c: u32, was: Found) -
 fn shown_end(c: u32, r: u32) -> u32
     ensures { result ≡ pick (ltb c r) alive r }
 {
-    if c < r {
-        return ALIVE;
-    }
-    r
-}
-
-fn put_stretch(list: &mut [u32], k: usize, a: Stretch, write: bool)
-    requires { Space stretches write list.old k (a ∷ []) }
-    ensures { list.new ≡ written stretches write list.old k (a ∷ []) }
-{
-    if write {
-        list[3 * k] = a.start;
-        list[3 * k + 1] = a.end;
-        list[3 * k + 2] = a.value;
-    }
+    if c < r { ALIVE } else { r }
 }
 
 // A stretch behind the first k of a list, where a value is found; gives how many there are then.
-fn tell_stretch(list: &mut [u32], k: usize, v: u32, e: u32, a: Found, write: bool) -> usize
-    requires { Space stretches write list.old k (shown v e a) }
-    ensures { Gathers stretches write list.old list.new k result (shown v e a) }
+fn tell_stretch(
+    list: &mut [u32],
+    k: usize,
+    v: u32,
+    e: u32,
+    value: Option<u32>,
+    write: bool,
+) -> usize
+    requires { Space stretches write list.old k (shown v e (found_in value)) }
+    ensures { Gathers stretches write list.old list.new k result (shown v e (found_in value)) }
 {
-    if a.is {
-        let b = Stretch {
-            start: v,
-            end: e,
-            value: a.value,
-        };
-        put_stretch(list, k, b, write);
-        return k + 1;
+    match value {
+        Some(value) => {
+            tell::put(list, k, [v, e, value], write);
+            k + 1
+        }
+        None => k,
     }
-    k
 }
 
 // The stretches from version old up to c, into a list or only counted; gives how many there are.

@@ -2,22 +2,19 @@
 ghost use Rattle.std.specs.Prelude.{◌≡◌, ◌*◌, ◌≤◌, length};
 ghost use Rattle.model.specs.Basic.{those};
 ghost use Rattle.model.specs.Return.{comes};
+ghost use Rattle.model.specs.Refusals.{found_in};
 ghost use Rattle.model.specs.Walk.{key_limit};
 ghost use Rattle.plain.specs.Plain.{differs};
 ghost use Rattle.plain.specs.Items.{from};
 ghost use Rattle.plain.specs.Guard.{comes_by};
 
-use crate::items::Found;
 use crate::{KEYS, items, scan};
 
 // 1 where the second has a value, and the first not the same; else 0.
-fn coming(a: Found, b: Found) -> usize
-    ensures { result ≡ comes_by a b }
+fn coming(a: Option<u32>, b: Option<u32>) -> usize
+    ensures { result ≡ comes_by (found_in a) (found_in b) }
 {
-    if scan::same(a, b) {
-        return 0;
-    }
-    if b.is { 1 } else { 0 }
+    usize::from(b.is_some() && a != b)
 }
 
 // How many keys a return from w to v inserts.

@@ -4,9 +4,8 @@ ghost use Rattle.model.specs.Basic.{is_empty};
 ghost use Rattle.model.specs.Walk.{key_limit};
 ghost use Rattle.plain.specs.Plain.{differs};
 ghost use Rattle.plain.specs.Items.{from};
-ghost use Rattle.plain.specs.Scan.{Lower, SkipsKeys, same_found};
+ghost use Rattle.plain.specs.Scan.{Lower, SkipsKeys};
 
-use crate::items::Found;
 use crate::{KEYS, items};
 use model::Entry;
 
@@ -15,47 +14,23 @@ fn lower(e: Entry, a: u32, r: u32, u: u32, v: u32) -> u32
     requires { a ≤ r }
     ensures { Lower e a r u v result }
 {
-    if e.key < a {
-        return r;
+    if a <= e.key && e.key < r && (items::says(e, e.key, u) || items::says(e, e.key, v)) {
+        e.key
+    } else {
+        r
     }
-    if r <= e.key {
-        return r;
-    }
-    if items::says(e, e.key, u) {
-        return e.key;
-    }
-    if items::says(e, e.key, v) {
-        return e.key;
-    }
-    r
 }
 
-// The lowest key from a on that has a value at u or at v, or KEYS.
+// The lowest key from a on that has a value at u or at v, or KEYS: the end of the keys that are passed, so that no caller tests for none.
 pub fn next_key(items: &[u32], n: usize, a: u32, u: u32, v: u32) -> u32
     requires { (4 * n ≤ length items.now) × (a ≤ key_limit) }
     ensures { SkipsKeys a result u v (from items.now 0 n) }
 {
     let mut r = KEYS;
-    let mut i = 0;
-    while i < n {
-        let e = items::item(items, i);
-        r = lower(e, a, r, u, v);
-        i += 1;
+    for i in 0..n {
+        r = lower(items::item(items, i), a, r, u, v);
     }
     r
-}
-
-// Whether two lookups found the same.
-pub fn same(a: Found, b: Found) -> bool
-    ensures { result ≡ same_found a b }
-{
-    if a.is {
-        if b.is {
-            return a.value == b.value;
-        }
-        return false;
-    }
-    !b.is
 }
 
 // Whether two versions have the same settings.
@@ -65,13 +40,10 @@ pub fn same_settings(items: &[u32], n: usize, u: u32, v: u32) -> bool
 {
     let mut k = next_key(items, n, 0, u, v);
     while k < KEYS {
-        let a = items::value_at(items, n, k, u);
-        let b = items::value_at(items, n, k, v);
-        if same(a, b) {
-            k = next_key(items, n, k + 1, u, v);
-        } else {
+        if items::value_at(items, n, k, u) != items::value_at(items, n, k, v) {
             return false;
         }
+        k = next_key(items, n, k + 1, u, v);
     }
     true
 }

@@ -1,36 +1,42 @@
 // The settings of a range and the differences of two versions: each is counted in one pass, and written in a second.
-ghost use Rattle.std.specs.Prelude.{◌≡◌, [], ◌∷◌, ◌*◌, ◌≤◌, ◌<◌, length};
-ghost use Rattle.model.specs.Entry.{pair};
-ghost use Rattle.model.specs.Telling.{written, Space, Gathers, deltas};
+// `write: bool` stays: the definitions (model's Space, Gathers) have the flag, and a closure would carry the list with it.
+// Each kind of thing has its own function that puts one or none: a closure that makes an array of it has no contract to go by.
+ghost use Rattle.std.specs.Prelude.{◌≡◌, true, ◌+◌, ◌*◌, ◌≤◌, ◌<◌, length};
+ghost use Rattle.std.proofs.lemmas.List.Edits.{sets};
+ghost use Rattle.model.specs.Basic.{pick};
+ghost use Rattle.model.specs.Differ.{says_of};
+ghost use Rattle.model.specs.Refusals.{found_in};
+ghost use Rattle.model.specs.Telling.{Space, Gathers, deltas};
 ghost use Rattle.model.specs.Walk.{key_limit};
-ghost use Rattle.plain.specs.Plain.{settings, differs};
+ghost use Rattle.plain.specs.Plain.{setting, settings, differs};
 ghost use Rattle.plain.specs.Items.{from};
-ghost use Rattle.plain.specs.Tell.{pairs, setting_by, kind_by, delta_by};
+ghost use Rattle.plain.specs.Tell.{pairs, those_in};
 
-use crate::items::Found;
 use crate::{KEYS, items, scan};
 use model::Delta;
 
-fn put_pair(list: &mut [u32], k: usize, key: u32, value: u32, write: bool)
-    requires { Space pairs write list.old k (pair key value ∷ []) }
-    ensures { list.new ≡ written pairs write list.old k (pair key value ∷ []) }
+// The numbers of thing k of a list that takes N each, where they are to be written.
+pub fn put<const N: usize>(list: &mut [u32], k: usize, numbers: [u32; N], write: bool)
+    requires { write ≡ true → N * k + N ≤ length list.old }
+    ensures { list.new ≡ pick write (sets list.old (N * k) numbers.entry) list.old }
 {
     if write {
-        list[2 * k] = key;
-        list[2 * k + 1] = value;
+        list[N * k..N * k + N].copy_from_slice(&numbers);
     }
 }
 
 // A setting behind the first k of a list, where one is found; gives how many there are then.
-fn tell_setting(list: &mut [u32], k: usize, key: u32, a: Found, write: bool) -> usize
-    requires { Space pairs write list.old k (setting_by key a) }
-    ensures { Gathers pairs write list.old list.new k result (setting_by key a) }
+fn tell_setting(list: &mut [u32], k: usize, key: u32, value: Option<u32>, write: bool) -> usize
+    requires { Space pairs write list.old k (setting key (found_in value)) }
+    ensures { Gathers pairs write list.old list.new k result (setting key (found_in value)) }
 {
-    if a.is {
-        put_pair(list, k, key, a.value, write);
-        return k + 1;
+    match value {
+        Some(value) => {
+            put(list, k, [key, value], write);
+            k + 1
+        }
+        None => k,
     }
-    k
 }
 
 // The settings from low to high at v, into a list or only counted; gives how many there are.
@@ -51,54 +57,51 @@ pub fn tell_settings(
     let mut found = 0;
     let mut k = scan::next_key(items, n, low, v, v);
     while k <= high {
-        let a = items::value_at(items, n, k, v);
-        found = tell_setting(list, found, k, a, write);
+        found = tell_setting(list, found, k, items::value_at(items, n, k, v), write);
         k = scan::next_key(items, n, k + 1, v, v);
     }
     found
 }
 
-fn put_delta(list: &mut [u32], k: usize, d: Delta, write: bool)
-    requires { Space deltas write list.old k (d ∷ []) }
-    ensures { list.new ≡ written deltas write list.old k (d ∷ []) }
+// What differs at a key: "0 for added, 1 for removed or 2 for changed, the old value and the new, zero where there is none".
+fn delta(key: u32, old: Option<u32>, new: Option<u32>) -> Option<Delta>
+    ensures { those_in result ≡ says_of key (found_in old) (found_in new) }
 {
-    if write {
-        list[4 * k] = d.key;
-        list[4 * k + 1] = d.kind;
-        list[4 * k + 2] = d.old;
-        list[4 * k + 3] = d.new;
+    match (old, new) {
+        (None, Some(new)) => Some(Delta {
+            key,
+            kind: 0,
+            old: 0,
+            new,
+        }),
+        (Some(old), None) => Some(Delta {
+            key,
+            kind: 1,
+            old,
+            new: 0,
+        }),
+        (Some(old), Some(new)) if old != new => Some(Delta {
+            key,
+            kind: 2,
+            old,
+            new,
+        }),
+        _ => None,
     }
 }
 
-// "0 for added, 1 for removed or 2 for changed"
-fn kind(a: Found, b: Found) -> u32
-    ensures { result ≡ kind_by a b }
+// A difference behind the first k of a list, where there is one; gives how many there are then.
+fn tell_delta(list: &mut [u32], k: usize, d: Option<Delta>, write: bool) -> usize
+    requires { Space deltas write list.old k (those_in d) }
+    ensures { Gathers deltas write list.old list.new k result (those_in d) }
 {
-    if a.is {
-        if b.is {
-            return 2;
+    match d {
+        Some(d) => {
+            put(list, k, [d.key, d.kind, d.old, d.new], write);
+            k + 1
         }
-        return 1;
+        None => k,
     }
-    0
-}
-
-// What differs at a key, behind the first k of a list; gives how many there are then.
-fn tell_delta(list: &mut [u32], k: usize, key: u32, a: Found, b: Found, write: bool) -> usize
-    requires { Space deltas write list.old k (delta_by key a b) }
-    ensures { Gathers deltas write list.old list.new k result (delta_by key a b) }
-{
-    if scan::same(a, b) {
-        return k;
-    }
-    let d = Delta {
-        key: key,
-        kind: kind(a, b),
-        old: a.value,
-        new: b.value,
-    };
-    put_delta(list, k, d, write);
-    k + 1
 }
 
 // What differs from u to v, into a list or only counted; gives how many keys.
@@ -118,7 +121,7 @@ pub fn tell_differences(
     while k < KEYS {
         let a = items::value_at(items, n, k, u);
         let b = items::value_at(items, n, k, v);
-        found = tell_delta(list, found, k, a, b, write);
+        found = tell_delta(list, found, delta(k, a, b), write);
         k = scan::next_key(items, n, k + 1, u, v);
     }
     found

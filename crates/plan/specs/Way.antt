@@ -1,5 +1,6 @@
 -- The way down to a leaf, place by place.
-use Rattle.std.specs.Prelude.{ℕ, ◌-◌, ◌≡◌, false, List, leb, ltb, length, get_or}
+use Rattle.std.specs.Prelude.{ℕ, ◌-◌, ◌≡◌, Bool, true, false, List, leb, ltb, length, get_or, Some}
+use Rattle.std.proofs.Math.Option.{Option, none, some}
 use Rattle.model.specs.declared.Pair.{Pair}
 use Rattle.model.specs.Walk as walk
 use Rattle.edit.specs.Fill.{nil, Fitting}
@@ -7,11 +8,15 @@ use Rattle.model.specs.declared.Limits.{Limits}
 use Rattle.model.specs.Layout.{decode}
 use Rattle.model.specs.Inner.{In}
 use Rattle.group.specs.declared.Around.{Around}
-use Rattle.group.specs.Group.{beside}
 use Rattle.plan.specs.declared.Way.{Way}
 use Rattle.plan.specs.Plan.{ups_of, Led}
 
 -- ---- a place among routers
+
+-- a neighbour, unless the place is the outermost on that side
+abbrev pub beside : Bool → Pair → Option Pair
+beside true x = none
+beside false x = some x
 
 -- that of the i-th, from 1 on, with its neighbours
 unfoldable pub place_at : List Pair → ℕ → walk.Around
@@ -21,8 +26,8 @@ place_at xs i =
 -- its routers are of those
 pub record Among (xs : List Pair) (a : Around) : Type 0 where
   pub own : In a.own xs × Fitting a.own
-  pub left : In a.left xs × Fitting a.left
-  pub right : a.rightmost ≡ false → In a.right xs × Fitting a.right
+  pub left : (x : Pair) → a.left ≡ Some x → In x xs × Fitting x
+  pub right : (x : Pair) → a.right ≡ Some x → In x xs × Fitting x
 
 -- ---- the way
 

@@ -14,31 +14,17 @@ use gather::Gather;
 use group::Around;
 use model::{Limits, Pair};
 
-// i less 2, or 0.
-fn less_two(i: usize) -> usize
-    ensures { result ≡ i - 2 }
-{
-    if i < 2 {
-        return 0;
-    }
-    i - 2
-}
-
 // The place of the i-th of some pairs, from 1 on.
 fn at_place(g: Gather, i: usize) -> Around
     requires { Good g × (g.n < 56) × (1 ≤ i) × (i ≤ g.n) }
     ensures { (around_of result ≡ place_at (pairs_in g) i) × Among (pairs_in g) result }
 {
     let list = g.list;
-    let p = less_two(i);
-    let left = list[p];
-    let own = list[i - 1];
-    let right = list[i];
+    let left = if i < 2 { None } else { Some(list[i - 2]) };
+    let right = if g.n <= i { None } else { Some(list[i]) };
     Around {
-        leftmost: i < 2,
         left,
-        own,
-        rightmost: g.n <= i,
+        own: list[i - 1],
         right,
     }
 }
@@ -49,16 +35,12 @@ fn around_in(g: Gather, key: u32) -> Around
     ensures { (around_of result ≡ around key (pairs_in g)) × Among (pairs_in g) result }
 {
     let list = g.list;
-    let n = g.n;
-    let mut i = 1;
-    while i < n {
-        let y = list[i];
-        if key < y.key {
+    for i in 1..g.n {
+        if key < list[i].key {
             return at_place(g, i);
         }
-        i += 1;
     }
-    at_place(g, i)
+    at_place(g, g.n)
 }
 
 // The place of a key among the routers of page n alive at w.
@@ -77,23 +59,18 @@ pub fn way_to(s: &[u8], l: Limits, w: u32, key: u32) -> Way
 {
     let no = Pair { key: 0, value: 0 };
     let nowhere = Around {
-        leftmost: false,
-        left: no,
+        left: None,
         own: no,
-        rightmost: false,
-        right: no,
+        right: None,
     };
     let root = walk::root_at(s, l, w);
-    let mut up = parts::level_of(s, l, root) - 1;
+    let n = parts::level_of(s, l, root) as usize - 1;
     let mut list = [nowhere; 8];
-    let mut n = 0;
     let mut at = root;
-    while 0 < up {
+    for i in 0..n {
         let a = place_below(s, l, at, w, key);
-        list[n] = a;
-        at = model::wide(a.own.value);
-        n += 1;
-        up -= 1;
+        list[i] = a;
+        at = a.own.value as usize;
     }
     Way { root, list, n }
 }

@@ -1,5 +1,6 @@
 -- The converter on bytes: what it gives, and what it leaves where it is done, where a step lacks a page or a slot, and where it is refused.
 -- Assumes nothing.
+use Rattle.promises.proofs.Limiting.{limits_of, edition-of}
 use Prim.Native.Nat.{ℕ, ◌≤◌}
 use native.Mathlib.Omega.{arith}
 use mathlib.Core.Bool.{Bool, true, false, ◌||◌, not}
@@ -9,7 +10,7 @@ use mathlib.Core.List.{List, [], ◌∷◌}
 use lib.Dec.{ltb}
 use lib.ListN.{length}
 use borrow.Author.Tests.{eq-eqb}
-use Rattle.model.specs.Limits.{limits, Edition}
+use Rattle.model.specs.Limits.{Edition}
 use Rattle.model.specs.Store.{Store, fresh, last, last_of}
 use Rattle.model.specs.Walk.{settings}
 use Rattle.model.specs.Layout.{size_of, encode, decode}
@@ -38,8 +39,8 @@ module _ (least : ℕ) (four : 4 ≤ least) (eight : least ≤ 8) (b : List ℕ)
   unfolding is_sound
   sure = eq-eqb (judged least b).number 0 ok
 
-  edition : Edition (limits least)
-  edition = record { all = refl; four = four; eight = eight }
+  edition : Edition (limits_of least four eight)
+  edition = edition-of least four eight
 
   lookup-is : (k v : ℕ) → lookup_any b k v ≡ get (decode least b) k v
   unfolding lookup_any

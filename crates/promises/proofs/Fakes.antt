@@ -13,8 +13,8 @@ use borrow.Author.Tests.{eqb-true, lt-ltb, le-ltb, eq-eqb, lt-leb, leb-false}
 use Rattle.model.specs.Basic.{pick, count, eq_list}
 use Rattle.model.specs.declared.Pair.{Pair}
 use Rattle.model.specs.declared.Entry.{Entry}
-use Rattle.model.specs.declared.Looked.{Looked}
-use Rattle.model.specs.declared.Looked.TheVariants.{Value}
+use Rattle.model.specs.Looked.{Looked}
+use Rattle.model.specs.Looked.{Value}
 use Rattle.model.specs.Entry.{pair, placed, enter_pair}
 use Rattle.model.specs.Store.{Store, page, last_of}
 use Rattle.model.specs.Walk.{key_limit, find, settings, between}

@@ -10,7 +10,7 @@ use lib.Dec.{leb, ltb}
 use borrow.Author.Tests.{not-true}
 use lib.ListN.{length}
 use Rattle.model.specs.Basic.{pick}
-use Rattle.model.specs.declared.Verdict.{Verdict}
+use Rattle.model.specs.Verdict.{Verdict}
 use Rattle.model.specs.Store.{Store}
 use Rattle.model.specs.Walk.{key_limit, settings, lookup_visits}
 use Rattle.model.specs.Sound.{sound}

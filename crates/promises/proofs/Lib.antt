@@ -1,4 +1,5 @@
 pub mod Known
+pub mod Limiting
 pub mod Early
 pub mod Encoded
 pub mod High

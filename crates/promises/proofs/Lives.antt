@@ -13,7 +13,7 @@ use lib.ListN.{length, drop}
 use borrow.Author.Tests.{lt-leb, leb-false, le-ltb, lt-ltb}
 use Rattle.model.specs.Basic.{all, flat_map}
 use Rattle.model.specs.declared.Stretch.{Stretch}
-use Rattle.model.specs.declared.Looked.TheVariants.{Value}
+use Rattle.model.specs.Looked.{Value}
 use Rattle.model.specs.Entry.{alive}
 use Rattle.model.specs.Store.{Store, next, last, last_of}
 use Rattle.model.specs.Walk.{key_limit, lookup}

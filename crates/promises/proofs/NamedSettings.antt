@@ -13,9 +13,8 @@ use lib.Ieee.{binary32, nan_bits}
 use borrow.Author.Tests.{le-leb, lt-leb, le-ltb, leb-false, eqb-true, eq-eqb, ne_eqb}
 use Rattle.model.specs.Basic.{all, keep, pick, those, flat_map}
 use Rattle.model.specs.declared.Pair.{Pair}
-use Rattle.model.specs.declared.Looked.TheVariants.{Refused}
-use Rattle.model.specs.declared.Known.{Known}
-use Rattle.model.specs.declared.Known.TheVariants.{Is}
+use Rattle.model.specs.Looked.{Refused}
+use Rattle.std.specs.Prelude.{Option, Some}
 use Rattle.model.specs.declared.Kind.{Kind}
 use Rattle.model.specs.declared.Kind.TheVariants.{Level}
 use Rattle.model.specs.Entry.{pair, enter_pair}
@@ -352,7 +351,7 @@ admitted-only least n table ts h v g =
 
 -- ---- a NaN
 
-allowed-admits : (kind : Kind) (x : ℕ) → eqb (allowed (Is kind) x) 0 ≡ true → admits kind x ≡ true
+allowed-admits : (kind : Kind) (x : ℕ) → eqb (allowed (Some kind) x) 0 ≡ true → admits kind x ≡ true
 allowed-admits kind x e = at (admits kind x) e
   where
     at : (b : Bool) → eqb (pick b 0 16) 0 ≡ true → b ≡ true
@@ -365,7 +364,7 @@ no-nans least n table ts h v g k x low high known found =
     let ok : admitted table (pair k x) ≡ true = all_in (admitted table) (pair k x) (shown least n ts v)
     (admitted-only least n table ts h v g) in-it in
     let yes : admits (Level low high) x ≡ true = allowed-admits (Level low high) x
-    (subst (λ (q : Known). eqb (allowed q x) 0 ≡ true) known ok) in
+    (subst (λ (q : Option Kind). eqb (allowed q x) 0 ≡ true) known ok) in
     at (nan_bits binary32 x) refl yes
   where
     at : (b : Bool) → nan_bits binary32 x ≡ b → admits (Level low high) x ≡ true → nan_bits binary32 x ≡ false
@@ -496,12 +495,12 @@ never-skipped table b lo hi v ns e = by (lent_number b) refl
 pub never-softer : NeverSofter
 unfolding lookup_named insert_named delete_named
 never-softer old b ok k x v from h found none_of = record {
-  lookup = λ ns. ap (λ (q : Known). of_looked b ns (judged_first (unknown q) (λ n. Refused n) (lookup_any b k v))) none_of;
+  lookup = λ ns. ap (λ (q : Option Kind). of_looked b ns (judged_first (unknown q) (λ n. Refused n) (lookup_any b k v))) none_of;
   range = λ lo hi ns p q t. ap (of_listed b)
       (range-goes old b lo hi v ns (known b ok) ∙ unknown-is least old b lo hi v ns (meets least b lo hi v (around lo hi p q t))
       (not-all lo hi p q t));
-  insert = λ y ns. ap (λ (q : Known). of_outcome ns (before (allowed q y) b (insert_any b k y))) none_of;
-  delete = λ ns. ap (λ (q : Known). of_outcome ns (before (unknown q) b (delete_any b k))) none_of;
+  insert = λ y ns. ap (λ (q : Option Kind). of_outcome ns (before (allowed q y) b (insert_any b k y))) none_of;
+  delete = λ ns. ap (λ (q : Option Kind). of_outcome ns (before (unknown q) b (delete_any b k))) none_of;
 }
   where
     least : ℕ
@@ -533,4 +532,4 @@ never-softer old b ok k x v from h found none_of = record {
             = sym (ap (all_known old) (range-met least b lo hi v (four b) (around lo hi p q t))) ∙ e in
             let one_known = all_in (λ (y : Pair). eqb (unknown (known_in old y.key)) 0) (pair k x)
             (between lo hi (settings (decode least b) v)) known i in
-            absurd (not-both (eqb (unknown (known_in old k)) 0) one_known (ap (λ (g : Known). eqb (unknown g) 0) none_of))
+            absurd (not-both (eqb (unknown (known_in old k)) 0) one_known (ap (λ (g : Option Kind). eqb (unknown g) 0) none_of))

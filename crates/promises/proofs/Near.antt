@@ -11,7 +11,7 @@ use lib.Dec.{leb, ltb}
 use lib.ListN.{length}
 use borrow.Author.Tests.{leb-true, le-leb, ltb-true, lt-ltb}
 use Rattle.model.specs.declared.Pair.{Pair}
-use Rattle.model.specs.declared.Looked.TheVariants.{Refused}
+use Rattle.model.specs.Looked.{Refused}
 use Rattle.model.specs.Store.{Store, last}
 use Rattle.model.specs.Walk.{key_limit, lookup, range_of}
 use Rattle.model.specs.Layout.{decode}

@@ -14,8 +14,8 @@ use Rattle.model.specs.Basic.{pick, flat_map, eq_list}
 use Rattle.model.specs.Field.{bit_of, bit_at}
 use Rattle.model.specs.Limits.{edition_of}
 use Rattle.model.specs.declared.Pair.{Pair}
-use Rattle.model.specs.declared.Looked.{Looked}
-use Rattle.model.specs.declared.Looked.TheVariants.{Refused}
+use Rattle.model.specs.Looked.{Looked}
+use Rattle.model.specs.Looked.{Refused}
 use Rattle.model.specs.Page.{Page, pairs_at}
 use Rattle.model.specs.Store.{page}
 use Rattle.model.specs.Walk.{root_at, followed, path_down, lookup_visits, range_path, range_visits}

@@ -8,8 +8,8 @@ use mathlib.Core.List.{List, [], ◌∷◌, ◌++◌, map}
 use lib.Dec.{T, lit≤}
 use lib.ListN.{get_or}
 use Rattle.model.specs.Basic.{all}
-use Rattle.model.specs.declared.Looked.{Looked}
-use Rattle.model.specs.declared.Looked.TheVariants.{Value, Absent}
+use Rattle.model.specs.Looked.{Looked}
+use Rattle.model.specs.Looked.{Value, Absent}
 use Rattle.model.specs.Store.{Store, fresh}
 use Rattle.model.specs.Sound.{sound}
 use Rattle.model.specs.Layout.{bit, encode}

@@ -1,15 +1,16 @@
 -- Readings of accepted bytes: each is the call on the store that they hold. Of lookup and range: "On a sound store the answers stay."
 -- Assumes nothing.
+use Rattle.promises.proofs.Limiting.{limits_of, edition-of}
 use Prim.Native.Nat.{ℕ}
 use mathlib.Core.Bool.{true}
 use mathlib.Core.Path.{◌≡◌, refl, ap, ◌∙◌}
 use mathlib.Core.List.{List}
 use lib.ListN.{length}
 use borrow.Author.Tests.{eq-eqb}
-use Rattle.model.specs.Limits.{limits, Edition}
-use Rattle.model.specs.declared.Looked.{Looked}
-use Rattle.model.specs.declared.Looked.TheVariants.{Refused}
-use Rattle.model.specs.declared.State.{State}
+use Rattle.model.specs.Limits.{Edition}
+use Rattle.model.specs.Looked.{Looked}
+use Rattle.model.specs.Looked.{Refused}
+use Rattle.model.specs.State.{State}
 use Rattle.model.specs.Judged.{judged, is_sound}
 use Rattle.model.specs.Editions.{least_of}
 use Rattle.model.specs.Calls.{get, range}
@@ -29,8 +30,8 @@ use Rattle.promises.specs.Near.{SoundSame}
 use Rattle.promises.proofs.Known.{four, eight, known, judged-by}
 
 module _ (b : List ℕ) (ok : Accepts b) where
-  edition : Edition (limits (least_of b))
-  edition = record { all = refl; four = four b; eight = eight b }
+  edition : Edition (limits_of (least_of b) (four b) (eight b))
+  edition = edition-of (least_of b) (four b) (eight b)
 
   accepted-sound : is_sound (least_of b) b ≡ true
   unfolding is_sound

@@ -10,7 +10,7 @@ use lib.Dec.{leb, ltb}
 use lib.ListN.{length, drop}
 use borrow.Author.Tests.{le-ltb, lt-leb}
 use Rattle.model.specs.declared.Pair.{Pair}
-use Rattle.model.specs.declared.Looked.{Looked}
+use Rattle.model.specs.Looked.{Looked}
 use Rattle.model.specs.Store.{Store, last}
 use Rattle.model.specs.Walk.{key_limit, lookup, lookup_visits}
 use Rattle.model.specs.Editions.{least_of}

@@ -1,6 +1,7 @@
 -- A table of kinds that is right has each key once, so that every row of it counts; and the premises of what is promised of named settings
 -- can be met, by an older program and a newer one that take turns.
 -- Assumes nothing.
+use Rattle.model.specs.declared.Kind.{Kind}
 use Prim.Native.Nat.{ℕ, zero, suc, ◌+◌, ◌*◌, ◌/◌, ◌≤◌, ◌<◌}
 use native.Mathlib.Omega.{arith}
 use mathlib.Core.Bool.{Bool, true, false, ◌&&◌}
@@ -11,7 +12,7 @@ use lib.Dec.{leb, ltb, eqb, lit≤}
 use lib.ListN.{length, get_or}
 use borrow.Author.Tests.{leb-true, eq-eqb, ne_eqb}
 use Rattle.model.specs.Basic.{pick}
-use Rattle.model.specs.declared.Known.TheVariants.{Is, Nothing}
+use Rattle.std.specs.Prelude.{Option, Some, None}
 use Rattle.model.specs.declared.Kind.TheVariants.{Whole, Switch}
 use Rattle.model.specs.Walk.{key_limit}
 use Rattle.model.specs.Kinds.{row_at, known_from, known_in, allowed, right_kind, row_right, wrong_from, wrong_row}
@@ -102,8 +103,8 @@ grown : Within older newer
 unfolding older newer known_in known_from
 grown k x = at (eqb 40 k)
   where
-    at : (b : Bool) → allowed (pick b (Is (Whole 1 100)) Nothing) x ≡ 0
-        → allowed (pick b (Is (Whole 1 100)) (pick (eqb 41 k) (Is Switch) Nothing)) x ≡ 0
+    at : (b : Bool) → allowed (pick b (Some (Whole 1 100)) None) x ≡ 0
+        → allowed (pick b (Some (Whole 1 100)) (pick (eqb 41 k) (Some Switch) None)) x ≡ 0
     at true e = e
     at false e = absurd (omega arith)
 

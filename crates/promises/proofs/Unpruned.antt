@@ -9,7 +9,7 @@ use mathlib.Core.List.{List, [], ◌∷◌}
 use lib.ListN.{length}
 use Rattle.model.specs.Basic.{pick}
 use Rattle.model.specs.declared.Entry.{Entry}
-use Rattle.model.specs.declared.Verdict.{Verdict}
+use Rattle.model.specs.Verdict.{Verdict}
 use Rattle.model.specs.Entry.{alive}
 use Rattle.model.specs.Page.{is_free}
 use Rattle.model.specs.Store.{Store, page, next, last, last_of}

@@ -3,7 +3,7 @@
 use Rattle.std.specs.Prelude.{ℕ, zero, suc, ◌+◌, ◌≤◌, Bool, true, ◌||◌, not, ◌≡◌, ◌⊎◌, List, [], ◌∷◌, leb, ltb, length, get_or}
 use Rattle.model.specs.Basic.{in_order}
 use Rattle.model.specs.declared.Pair.{Pair}
-use Rattle.model.specs.declared.Looked.{Looked}
+use Rattle.model.specs.Looked.{Looked}
 use Rattle.model.specs.Store.{last_of}
 use Rattle.model.specs.Walk.{key_limit, find, between}
 use Rattle.model.specs.Same.{same_pairs}

@@ -3,7 +3,7 @@
 use Rattle.std.specs.Prelude.{ℕ, ◌*◌, ◌≤◌, ◌<◌, true, ◌≡◌, ◌≢◌, ◌↔◌, ◌⊎◌, List, [], ◌∷◌, ◌++◌, length, drop}
 use Rattle.model.specs.Basic.{flat_map}
 use Rattle.model.specs.declared.Stretch.{Stretch}
-use Rattle.model.specs.declared.Looked.TheVariants.{Value}
+use Rattle.model.specs.Looked.{Value}
 use Rattle.model.specs.Entry.{alive}
 use Rattle.model.specs.Store.{next}
 use Rattle.model.specs.Walk.{key_limit}

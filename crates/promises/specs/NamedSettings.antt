@@ -2,13 +2,14 @@
 -- key is refused with 17 on reading and writing, never skipped. [..] The store's promises are used as they stand." What the layer's calls
 -- give is `ended_named` (model's Named), which their contracts cite.
 -- Assumes nothing.
+use Rattle.model.specs.declared.Kind.{Kind}
 use Rattle.std.specs.Prelude.{ℕ, ◌*◌, ◌/◌, ◌≤◌, ◌<◌, Bool, true, false, ◌≡◌, ◌≢◌, List, [], ◌∷◌, ◌++◌, ltb, eqb, length, drop, get_or, Float}
 use Rattle.std.proofs.Math.Option.{some}
 use Rattle.std.specs.Float.{binary32}
 use Rattle.std.specs.Float.Ieee.{nan_bits}
 use Rattle.model.specs.Basic.{all, flat_map}
 use Rattle.model.specs.declared.Pair.{Pair}
-use Rattle.model.specs.declared.Known.TheVariants.{Is, Nothing}
+use Rattle.std.specs.Prelude.{Option, Some, None}
 use Rattle.model.specs.declared.Kind.TheVariants.{Level}
 use Rattle.model.specs.Store.{fresh, last}
 use Rattle.model.specs.Walk.{settings, between, find, key_limit}
@@ -90,7 +91,7 @@ AdmittedOnly = (least n : ℕ) (table : List ℕ) (ts : List NamedTurn) → Name
 -- "a NaN is refused": no level is one
 abbrev pub NoNan : Type 0
 NoNan = (least n : ℕ) (table : List ℕ) (ts : List NamedTurn) → NamedHistory least n table ts
-    → (v : ℕ) → v ≤ last_shown least n ts → (k x : ℕ) (low high : Float) → known_in table k ≡ Is (Level low high)
+    → (v : ℕ) → v ≤ last_shown least n ts → (k x : ℕ) (low high : Float) → known_in table k ≡ Some (Level low high)
     → find k (shown least n ts v) ≡ some x → nan_bits binary32 x ≡ false
 
 -- ---- "never skipped": a range that is done shows every setting from lo to hi, and its program knows each of them
@@ -122,7 +123,7 @@ pub record NameRefused (old b : List ℕ) (k v : ℕ) : Type 0 where
 
 abbrev pub NeverSofter : Type 0
 NeverSofter = (old b : List ℕ) → Accepts b → (k x v : ℕ) → (store_of b).oldest ≤ v → v ≤ last (store_of b)
-    → find k (settings (store_of b) v) ≡ some x → known_in old k ≡ Nothing → NameRefused old b k v
+    → find k (settings (store_of b) v) ≡ some x → known_in old k ≡ None → NameRefused old b k v
 
 -- ---- a table that is right: each of its rows says what its key is, and no other row does
 

@@ -1,7 +1,9 @@
--- An answer found with `left` pages left to read: it is the right one where something is left still.
-use Rattle.std.specs.Prelude.{ℕ, ◌<◌, ◌≤◌, Bool, ◌≡◌}
-use Rattle.quick.specs.declared.within.Within.{Within}
+-- An answer found within a budget of `left` pages: so many are left where the tests hold, and where the budget is used up nothing is known.
+use Rattle.std.specs.Prelude.{ℕ, ◌≤◌, Bool, true, false, ◌≡◌, Result, Ok, Err, ⊤}
+use Rattle.quick.specs.declared.within.Stop.{Stop}
+use Rattle.quick.specs.declared.within.Stop.TheVariants.{Wrong, UsedUp}
 
-pub record QuickRight (left : ℕ) (x : Bool) (r : Within) : Type 0 where
-  pub less : r.left ≤ left
-  pub right : 0 < r.left → r.fine ≡ x
+abbrev pub QuickRight : ℕ → Bool → Result ℕ Stop → Type 0
+QuickRight left x (Ok rest) = (rest ≤ left) × (x ≡ true)
+QuickRight left x (Err Wrong) = x ≡ false
+QuickRight left x (Err UsedUp) = ⊤

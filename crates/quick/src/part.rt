@@ -1,8 +1,7 @@
 // One page throughout a stretch, the versions from a up to, not including, b: its keys, and how many entries are alive.
-ghost use Rattle.std.specs.Prelude.{◌≡◌, true, suc, ◌+◌, ◌*◌, ◌-◌, ◌≤◌, min, length};
+ghost use Rattle.std.specs.Prelude.{◌≡◌, ℕ, Bool, true, suc, ◌+◌, ◌*◌, ◌-◌, ◌≤◌, min, length};
 ghost use Rattle.model.specs.Basic.{all, those, in_order};
 ghost use Rattle.model.specs.Entry.{before};
-ghost use Rattle.model.specs.Limits.{Edition};
 ghost use Rattle.model.specs.Layout.{read_entry, read_entries, decode_page};
 ghost use Rattle.spans.specs.Quick.{kept, apart, low_over, key_over, many_over, fine_over, past_all};
 ghost use Rattle.model.specs.Inner.{throughout};
@@ -12,18 +11,17 @@ ghost use Rattle.quick.specs.Part.{end_fine, high_over, key_fine};
 
 use model::Limits;
 
-// The live keys are under k, or they are at least k, as `under` says.
-fn keys_each(page: &[u8], n: usize, k: u32, under: bool, a: u32, b: u32) -> bool
-    requires { EntryRoom page.now n }
-    ensures { result ≡ all (key_fine under k a b) (read_entries page.now 128 n) }
+// Whether each key that is alive in the stretch is fine.
+fn keys_each<F: Fn(u32) -> bool>(page: &[u8], n: usize, a: u32, b: u32, fine: F) -> bool
+    requires { EntryRoom page.now n × F.IsAlwaysCallable fine }
+    ensures { (f : ℕ → Bool) → ((x : ℕ) (r : Bool) → F.post fine x r → r ≡ f x)
+        → result ≡ all (key_fine f a b) (read_entries page.now 128 n) }
 {
-    let mut i = 0;
-    while i < n {
+    for i in 0..n {
         let e = page::entry_at(page, i);
-        if !crate::entry::key_fine(k, under, a, b, e) {
+        if crate::entry::meets(a, b, e) && !fine(e.key) {
             return false;
         }
-        i += 1;
     }
     true
 }
@@ -33,14 +31,7 @@ fn low_over(page: &[u8], n: usize, low: u32, a: u32, b: u32) -> bool
     requires { EntryRoom page.now n × (in_order before (read_entries page.now 128 n) ≡ true) }
     ensures { result ≡ low_over low a b (read_entries page.now 128 n) }
 {
-    if n == 0 {
-        return true;
-    }
-    let e = page::entry_at(page, 0);
-    if low <= e.key {
-        return true;
-    }
-    keys_each(page, n, low, false, a, b)
+    n == 0 || low <= page::entry_at(page, 0).key || keys_each(page, n, a, b, |k| low <= k)
 }
 
 // The live keys are under h. Entries stand by key, so that where the last one's is all are.
@@ -48,14 +39,7 @@ pub(crate) fn high_over(page: &[u8], n: usize, h: u32, a: u32, b: u32) -> bool
     requires { EntryRoom page.now n × (in_order before (read_entries page.now 128 n) ≡ true) }
     ensures { result ≡ high_over h a b (read_entries page.now 128 n) }
 {
-    if n == 0 {
-        return true;
-    }
-    let e = page::entry_at(page, n - 1);
-    if e.key < h {
-        return true;
-    }
-    keys_each(page, n, h, true, a, b)
+    n == 0 || page::entry_at(page, n - 1).key < h || keys_each(page, n, a, b, |k| k < h)
 }
 
 // An entry with the key k is alive throughout.
@@ -64,14 +48,14 @@ fn key_over(page: &[u8], n: usize, k: u32, a: u32, b: u32) -> bool
     ensures { result ≡ key_over k a b (read_entries page.now 128 n) }
 {
     let mut t = a;
-    let mut i = 0;
-    while i < n {
+    for i in 0..n {
         if b <= t {
             return true;
         }
         let e = page::entry_at(page, i);
-        t = crate::entry::past_key(k, t, e);
-        i += 1;
+        if e.key == k {
+            t = crate::entry::past(t, e);
+        }
     }
     b <= t
 }
@@ -82,16 +66,14 @@ pub(crate) fn past_behind(page: &[u8], n: usize, i: usize, a: u32, b: u32) -> u3
     ensures { result ≡ min b (past_all a (read_entries page.now (128 + 96 * i) (n - i))) }
 {
     let mut t = a;
-    let mut k = i;
-    while k < n {
+    for k in i..n {
         if b <= t {
             return b;
         }
         let e = page::entry_at(page, k);
         t = crate::entry::past(t, e);
-        k += 1;
     }
-    crate::entry::smaller(b, t)
+    b.min(t)
 }
 
 // How many are alive from a on through z. Once there are m no more are counted.
@@ -100,14 +82,13 @@ fn through_count(page: &[u8], n: usize, m: usize, a: u32, z: u32) -> usize
     ensures { result ≡ min m (length (those (throughout a (suc z)) (read_entries page.now 128 n))) }
 {
     let mut c = 0;
-    let mut i = 0;
-    while i < n {
+    for i in 0..n {
         if m <= c {
             return c;
         }
-        let e = page::entry_at(page, i);
-        c += crate::entry::through_one(e, a, z);
-        i += 1;
+        if crate::entry::throughout(page::entry_at(page, i), a, z) {
+            c += 1;
+        }
     }
     c
 }
@@ -117,25 +98,15 @@ fn end_fine(page: &[u8], n: usize, i: usize, m: usize, a: u32, b: u32) -> bool
     requires { EntryRoom page.now n × (i + 1 ≤ n) }
     ensures { result ≡ end_fine m a b (read_entries page.now 128 n) (read_entry page.now (128 + 96 * i)) }
 {
-    let e = page::entry_at(page, i);
-    if !crate::entry::ends_in(e, a, b) {
-        return true;
-    }
-    m <= through_count(page, n, m, e.end, e.end)
+    let end = page::entry_at(page, i).end;
+    end <= a || b <= end || m <= through_count(page, n, m, end, end)
 }
 
 fn ends_over(page: &[u8], n: usize, m: usize, a: u32, b: u32) -> bool
     requires { EntryRoom page.now n }
     ensures { result ≡ all (end_fine m a b (read_entries page.now 128 n)) (read_entries page.now 128 n) }
 {
-    let mut i = 0;
-    while i < n {
-        if !end_fine(page, n, i, m, a, b) {
-            return false;
-        }
-        i += 1;
-    }
-    true
+    (0..n).all(|i| end_fine(page, n, i, m, a, b))
 }
 
 // At least m entries are alive. Where so many are alive throughout no end needs a look.
@@ -143,34 +114,20 @@ fn many_over(page: &[u8], n: usize, m: usize, a: u32, b: u32) -> bool
     requires { EntryRoom page.now n }
     ensures { result ≡ many_over m a b (read_entries page.now 128 n) }
 {
-    if a < b {
-        if m <= through_count(page, n, m, a, b - 1) {
-            return true;
-        }
-    }
-    if through_count(page, n, m, a, a) < m {
-        return false;
-    }
-    ends_over(page, n, m, a, b)
+    (a < b && m <= through_count(page, n, m, a, b - 1))
+        || (m <= through_count(page, n, m, a, a) && ends_over(page, n, m, a, b))
 }
 
 // A page to which a slot or a router leads throughout the stretch, with that low key.
 pub(crate) fn fine_over(page: &[u8], l: Limits, m: usize, low: u32, a: u32, b: u32) -> bool
-    requires { Edition l × (length page.now ≡ 64 * l.least) × ((read_head l.least page.now).count ≤ 5 * l.least)
+    requires { (length page.now ≡ 64 * l.least) × ((read_head l.least page.now).count ≤ 5 * l.least)
         × (in_order before (read_entries page.now 128 (read_head l.least page.now).count) ≡ true) }
     ensures { result ≡ fine_over m low a b (decode_page l.least page.now) }
 {
     let h = page::head_of(page, l);
-    if !low_over(page, h.count, low, a, b) {
-        return false;
-    }
-    if h.level == 1 {
-        return many_over(page, h.count, m, a, b);
-    }
-    if !key_over(page, h.count, low, a, b) {
-        return false;
-    }
-    many_over(page, h.count, m, a, b)
+    low_over(page, h.count, low, a, b)
+        && (h.level == 1 || key_over(page, h.count, low, a, b))
+        && many_over(page, h.count, m, a, b)
 }
 
 // "No live key stands twice in a page", of the entries that have not ended by the oldest version. They stand in order, so that each to the
@@ -179,15 +136,15 @@ pub(crate) fn all_apart(page: &[u8], n: usize, old: u32) -> bool
     requires { EntryRoom page.now n × (in_order before (read_entries page.now 128 n) ≡ true) }
     ensures { result ≡ in_order apart (kept old (read_entries page.now 128 n)) }
 {
-    let mut d = crate::entry::nobody();
-    let mut i = 0;
-    while i < n {
+    let mut last = None;
+    for i in 0..n {
         let e = page::entry_at(page, i);
-        if !crate::entry::apart_kept(old, d, e) {
-            return false;
+        if old < e.end {
+            if last.is_some_and(|d| !crate::entry::apart(d, e)) {
+                return false;
+            }
+            last = Some(e);
         }
-        d = crate::entry::last_kept(old, d, e);
-        i += 1;
     }
     true
 }

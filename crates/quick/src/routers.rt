@@ -1,6 +1,5 @@
 // The routers of a page: each one's child throughout its span, with the next one's low key above the keys under it.
 ghost use Rattle.std.specs.Prelude.{◌≡◌, ◌+◌, ◌*◌, ◌-◌, ◌≤◌, ◌<◌, min, max};
-ghost use Rattle.model.specs.Limits.{Edition};
 ghost use Rattle.model.specs.Layout.{read_entry, read_entries, read_header, decode};
 ghost use Rattle.spans.specs.Quick.{kept, under, nexts, routers_fine};
 ghost use Rattle.local.specs.Local.{IsPage, level_at};
@@ -10,29 +9,8 @@ ghost use Rattle.quick.specs.Routers.{router_from, router_fine, entries_at};
 ghost use Rattle.quick.specs.Under.{under_page};
 ghost use Rattle.quick.specs.Within.{QuickRight};
 
-use crate::within::Within;
-use model::{Entry, Limits};
-
-// Where entry e is alive in the stretch, the keys under page m are under its key.
-fn next_fine(
-    s: &[u8],
-    l: Limits,
-    up: usize,
-    m: usize,
-    a: u32,
-    b: u32,
-    e: Entry,
-    left: u32,
-) -> Within
-    requires { Edition l × QuickGood l.least s.now × IsPage l.least s.now m × (level_at l.least s.now m ≡ up + 1)
-        × ((read_header l.least s.now).oldest ≤ a) }
-    ensures { QuickRight left (under up (decode l.least s.now).pages e.key (max a e.start) (min b e.end) m)
-        result }
-{
-    let c = crate::entry::larger(a, e.start);
-    let d = crate::entry::smaller(b, e.end);
-    crate::under::under(s, l, up, e.key, c, d, m, left)
-}
+use crate::within::Stop;
+use model::Limits;
 
 // The keys under page m are under the low key of the next one alive, the entries from place i of the page p on. Once the stretch is
 // gone through, nothing more is asked.
@@ -47,32 +25,23 @@ fn nexts_fine(
     a: u32,
     b: u32,
     left: u32,
-) -> Within
-    requires { Edition l × QuickGood l.least s.now × IsPage l.least s.now m × (level_at l.least s.now m ≡ up + 1)
-        × EntryRoom p.now n × (i ≤ n) × ((read_header l.least s.now).oldest ≤ a) }
+) -> Result<u32, Stop>
+    requires { QuickGood l.least s.now × IsPage l.least s.now m × (level_at l.least s.now m ≡ up + 1) × EntryRoom p.now n
+        × (i ≤ n) × ((read_header l.least s.now).oldest ≤ a) }
     ensures { QuickRight left
         (nexts (under_page up (decode l.least s.now).pages m) a b (read_entries p.now (128 + 96 * i) (n - i))) result }
 {
     let mut rest = left;
     let mut t = a;
-    let mut k = i;
-    while k < n {
+    for k in i..n {
         if b <= t {
             break;
         }
         let e = page::entry_at(p, k);
-        let r = next_fine(s, l, up, m, t, b, e, rest);
-        if !r.fine {
-            return r;
-        }
-        rest = r.left;
+        rest = crate::under::under(s, l, up, e.key, t.max(e.start), b.min(e.end), m, rest)?;
         t = crate::entry::past(t, e);
-        k += 1;
     }
-    Within {
-        fine: true,
-        left: rest,
-    }
+    Ok(rest)
 }
 
 // The router at place i of the page p from version a on, and those behind it.
@@ -85,21 +54,17 @@ fn router_from(
     i: usize,
     a: u32,
     left: u32,
-) -> Within
-    requires { Edition l × QuickGood l.least s.now × EntryRoom p.now n × (i + 1 ≤ n)
+) -> Result<u32, Stop>
+    requires { QuickGood l.least s.now × EntryRoom p.now n × (i + 1 ≤ n)
         × IsPage l.least s.now (read_entry p.now (128 + 96 * i)).value
         × (level_at l.least s.now (read_entry p.now (128 + 96 * i)).value ≡ up + 1) × ((read_header l.least s.now).oldest ≤ a) }
     ensures { QuickRight left
         (router_from l.least up (decode l.least s.now).pages a (read_entry p.now (128 + 96 * i)) (read_entries p.now (128 + 96 * (i + 1)) (n - (i + 1)))) result }
 {
     let e = page::entry_at(p, i);
-    let m = model::wide(e.value);
-    let c = store::part(s, l, m);
-    if !crate::part::fine_over(c, l, l.least, e.key, a, e.end) {
-        return Within {
-            fine: false,
-            left: left,
-        };
+    let m = e.value as usize;
+    if !crate::part::fine_over(store::part(s, l, m), l, l.least, e.key, a, e.end) {
+        return Err(Stop::Wrong);
     }
     nexts_fine(s, l, up, m, p, n, i + 1, a, e.end, left)
 }
@@ -114,46 +79,38 @@ fn router_fine(
     i: usize,
     old: u32,
     left: u32,
-) -> Within
-    requires { Edition l × QuickGood l.least s.now × EntryRoom p.now n × (i + 1 ≤ n)
-        × (old < (read_entry p.now (128 + 96 * i)).end
+) -> Result<u32, Stop>
+    requires { QuickGood l.least s.now × EntryRoom p.now n × (i + 1 ≤ n) × (old < (read_entry p.now (128 + 96 * i)).end
         → IsPage l.least s.now (read_entry p.now (128 + 96 * i)).value × (level_at l.least s.now (read_entry p.now (128 + 96 * i)).value ≡ up + 1)) × (old ≡ (read_header l.least s.now).oldest) }
     ensures { QuickRight left
         (router_fine l.least old up (decode l.least s.now).pages (read_entry p.now (128 + 96 * i)) (read_entries p.now (128 + 96 * (i + 1)) (n - (i + 1)))) result }
 {
     let e = page::entry_at(p, i);
     if e.end <= old {
-        return Within {
-            fine: true,
-            left: left,
-        };
+        return Ok(left);
     }
-    let a = crate::entry::larger(old, e.start);
-    router_from(s, l, up, p, n, i, a, left)
+    router_from(s, l, up, p, n, i, old.max(e.start), left)
 }
 
 // The routers of page n, which lead to pages `up` levels above the leaves.
-pub(crate) fn routers_fine(s: &[u8], l: Limits, up: usize, n: usize, old: u32, left: u32) -> Within
-    requires { Edition l × QuickGood l.least s.now × IsPage l.least s.now n × (level_at l.least s.now n ≡ up + 2)
+pub(crate) fn routers_fine(
+    s: &[u8],
+    l: Limits,
+    up: usize,
+    n: usize,
+    old: u32,
+    left: u32,
+) -> Result<u32, Stop>
+    requires { QuickGood l.least s.now × IsPage l.least s.now n × (level_at l.least s.now n ≡ up + 2)
         × (old ≡ (read_header l.least s.now).oldest) }
     ensures { QuickRight left
         (routers_fine l.least old up (decode l.least s.now).pages (kept old (entries_at l.least s.now n))) result }
 {
     let p = store::part(s, l, n);
-    let f = page::head_of(p, l);
-    let count = f.count;
+    let count = page::head_of(p, l).count;
     let mut rest = left;
-    let mut i = 0;
-    while i < count {
-        let r = router_fine(s, l, up, p, count, i, old, rest);
-        if !r.fine {
-            return r;
-        }
-        rest = r.left;
-        i += 1;
+    for i in 0..count {
+        rest = router_fine(s, l, up, p, count, i, old, rest)?;
     }
-    Within {
-        fine: true,
-        left: rest,
-    }
+    Ok(rest)
 }

@@ -1,7 +1,6 @@
 // "A used page is reached at every version of its span": the spans of what leads to each page add up to its own, from the oldest version
 // on.
 ghost use Rattle.std.specs.Prelude.{◌≡◌, ℕ, ◌+◌, ◌*◌, ◌^◌, ◌≤◌, ◌<◌, length, get_or, drop};
-ghost use Rattle.model.specs.Limits.{Edition};
 ghost use Rattle.model.specs.Layout.{page_of, decode, decode_page, read_entry, read_entries};
 ghost use Rattle.spans.specs.Quick.{spans_met};
 ghost use Rattle.local.specs.Local.{IsPage};
@@ -21,19 +20,19 @@ fn add(sums: &mut [u64], n: usize, x: u32)
 
 // Each slot's stretch, at its root.
 fn add_slots(sums: &mut [u64], s: &[u8], l: Limits, old: u32)
-    requires { Edition l × QuickGood l.least s.now × GoodSlots l.least s.now × Sums 0 sums.old }
+    requires { QuickGood l.least s.now × GoodSlots l.least s.now × Sums 0 sums.old }
     ensures { sums.new ≡ add_slots old sums.old (decode l.least s.now).slots }
 {
     let h = store::header(s, l);
-    let roots = model::wide(h.roots);
-    let mut i = 0;
-    while i < roots {
+    let roots = h.roots as usize;
+    for i in 0..roots {
         let x = store::slot(s, l, i);
         let b = crate::slots::upto_at(s, l, i + 1, roots);
-        let n = model::wide(x.root);
-        let k = crate::entry::span_from(old, x.version, b);
-        add(sums, n, k);
-        i += 1;
+        add(
+            sums,
+            x.root as usize,
+            crate::entry::span_from(old, x.version, b),
+        );
     }
 }
 
@@ -43,19 +42,19 @@ fn add_entries(sums: &mut [u64], page: &[u8], n: usize, old: u32)
         × ((i : ℕ) → i < n → (read_entry page.now (128 + 96 * i)).value < 4096) }
     ensures { sums.new ≡ add_entries old sums.old (read_entries page.now 128 n) }
 {
-    let mut i = 0;
-    while i < n {
+    for i in 0..n {
         let e = page::entry_at(page, i);
-        let m = model::wide(e.value);
-        let k = crate::entry::span_from(old, e.start, e.end);
-        add(sums, m, k);
-        i += 1;
+        add(
+            sums,
+            e.value as usize,
+            crate::entry::span_from(old, e.start, e.end),
+        );
     }
 }
 
 // The routers of page n, if it has any.
 fn add_page(sums: &mut [u64], s: &[u8], l: Limits, n: usize, old: u32)
-    requires { Edition l × QuickGood l.least s.now × IsPage l.least s.now n × Sums 200000 sums.old }
+    requires { QuickGood l.least s.now × IsPage l.least s.now n × Sums 200000 sums.old }
     ensures { sums.new ≡ add_page old sums.old (decode_page l.least (page_of l.least s.now n)) }
 {
     let p = store::part(s, l, n);
@@ -67,47 +66,40 @@ fn add_page(sums: &mut [u64], s: &[u8], l: Limits, n: usize, old: u32)
 }
 
 fn add_pages(sums: &mut [u64], s: &[u8], l: Limits, old: u32)
-    requires { Edition l × QuickGood l.least s.now × Sums 512 sums.old }
+    requires { QuickGood l.least s.now × Sums 512 sums.old }
     ensures { sums.new ≡ add_pages old sums.old (drop 5 (decode l.least s.now).pages) }
 {
     let size = store::size(s, l);
-    let mut n = 5;
-    while n < size {
+    for n in 5..size {
         add_page(sums, s, l, n, old);
-        n += 1;
     }
 }
 
 // Page n is free, or the sum is its span.
 fn page_met(s: &[u8], l: Limits, n: usize, sum: u64, old: u32) -> bool
-    requires { Edition l × QuickGood l.least s.now × IsPage l.least s.now n }
+    requires { QuickGood l.least s.now × IsPage l.least s.now n }
     ensures { result ≡ page_met old sum (decode_page l.least (page_of l.least s.now n)) }
 {
     let h = page::head_of(store::part(s, l, n), l);
-    if h.level == 0 {
-        return true;
-    }
-    sum == crate::entry::span_from(old, h.start, h.end) as u64
+    h.level == 0 || sum == crate::entry::span_from(old, h.start, h.end) as u64
 }
 
 fn all_met(sums: &[u64], s: &[u8], l: Limits, old: u32) -> bool
-    requires { Edition l × QuickGood l.least s.now × (length sums.now ≡ 4096) }
+    requires { QuickGood l.least s.now × (length sums.now ≡ 4096) }
     ensures { result ≡ all_met old sums.now 5 (drop 5 (decode l.least s.now).pages) }
 {
     let size = store::size(s, l);
-    let mut n = 5;
-    while n < size {
+    for n in 5..size {
         if !page_met(s, l, n, sums[n], old) {
             return false;
         }
-        n += 1;
     }
     true
 }
 
 // Each used page from 5 on: the spans of the slots and routers that lead to it add up to its own.
 pub(crate) fn spans_met(s: &[u8], l: Limits) -> bool
-    requires { Edition l × QuickGood l.least s.now × GoodSlots l.least s.now }
+    requires { QuickGood l.least s.now × GoodSlots l.least s.now }
     ensures { result ≡ spans_met (decode l.least s.now) 5 (drop 5 (decode l.least s.now).pages) }
 {
     let h = store::header(s, l);

@@ -1,6 +1,7 @@
-// What was found with so many pages left to read. Where nothing is left it says nothing: whoever asked must ask in another way.
-#[derive(Clone, Copy)]
-pub(crate) struct Within {
-    pub fine: bool,
-    pub left: u32,
+// Why the tests stop: something is wrong, or as many pages as may be were read, and nothing more is known. Whoever asked must then ask in
+// another way.
+#[derive(Clone, Copy, PartialEq, Eq)]
+pub(crate) enum Stop {
+    Wrong,
+    UsedUp,
 }

@@ -1,3 +1,4 @@
+pub mod Rest
 pub mod Live
 pub mod Marked
 pub mod Pending

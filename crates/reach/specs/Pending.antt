@@ -1,14 +1,11 @@
 -- The walk over a stretch of versions with a list of pages that wait: what it tests, what it has seen, and what it tells.
-use Rattle.std.specs.Prelude.{ℕ, ◌+◌, ◌*◌, ◌-◌, ◌<◌, ◌≤◌, Bool, true, false, ◌&&◌, ◌||◌, not, ◌≡◌, List, [], ◌∷◌, map, leb, ltb, eqb, length, get_or}
+use Rattle.std.specs.Prelude.{ℕ, ◌+◌, ◌*◌, ◌-◌, ◌<◌, ◌≤◌, Bool, true, false, ◌&&◌, ◌||◌, not, ◌≡◌, List, [], ◌∷◌, map, leb, ltb, eqb, length, get_or, Option, Some, is_some}
 use Rattle.model.specs.declared.Pair.{Pair}
 use Rattle.model.specs.Basic.{those, pick, all, any, flat_map, count}
 use Rattle.model.specs.Entry.{pair_of, live_at, within}
-use Rattle.model.specs.Store.{page}
 use Rattle.model.specs.Walk.{Seen, seen_below, key_limit}
 use Rattle.model.specs.Sound.{starts_at, fewest}
 use Rattle.model.specs.Layout.{read_entry, read_entries, decode}
-use Rattle.reach.specs.declared.marks.Item.{Item}
-use Rattle.reach.specs.declared.marks.Walked.{Walked}
 
 -- ---- what rule 4 or 5 asks of a page that is reached, in the order of the walk: once, then of each live entry
 
@@ -35,10 +32,6 @@ passes least rule x = open_ok least rule x.is_root x.up x.low x.pairs && chain_o
 abbrev pub over : (ℕ → List Seen) → ℕ → ℕ → List Seen
 over f a b = flat_map f (count a (b - a))
 
--- the same page from version c on
-abbrev pub rest_of : Item → ℕ → Item
-rest_of it c = record { page = it.page; up = it.up; root = it.root; low = it.low; high = it.high; from = c; upto = it.upto }
-
 -- ---- the live pairs of a page from place i on
 
 unfoldable pub pairs_from : (p : List ℕ) (v i n : ℕ) → List Pair
@@ -64,7 +57,6 @@ abbrev pub is_number : ℕ → Seen → Bool
 is_number n x = eqb n x.number
 
 -- at each version from a up to, not including, b
-pub record Tells (least : ℕ) (s : List ℕ) (r up a b rule : ℕ) (w : Walked) : Type 0 where
-  pub verdict : w.broken ≡ pick (all (passes least rule) (whole_in least s up a b r)) 0 rule
-  pub marked : all (passes least rule) (whole_in least s up a b r) ≡ true → (m : ℕ)
-      → get_or w.marks m false ≡ any (is_number m) (whole_in least s up a b r)
+pub record Tells (least : ℕ) (s : List ℕ) (r up a b rule : ℕ) (w : Option (List Bool)) : Type 0 where
+  pub verdict : is_some w ≡ all (passes least rule) (whole_in least s up a b r)
+  pub marked : (marks : List Bool) → w ≡ Some marks → (m : ℕ) → get_or marks m false ≡ any (is_number m) (whole_in least s up a b r)

@@ -1,6 +1,5 @@
 // The versions at which something of a page starts or ends. Between two of them each test answers the same.
 ghost use Rattle.std.specs.Prelude.{◌≡◌, ◌*◌, ◌≤◌, ◌<◌, length};
-ghost use Rattle.model.specs.Limits.{Edition};
 ghost use Rattle.page.specs.Head.{read_head};
 ghost use Rattle.notes.specs.Ready.{BehindUpto};
 ghost use Rattle.reach.specs.Versions.{QuietPart};
@@ -9,20 +8,17 @@ use model::Limits;
 
 // A version up to r such that nothing of the page starts or ends before it and behind v. For a single version nothing is read.
 pub fn page_change(page: &[u8], l: Limits, v: u32, r: u32) -> u32
-    requires { Edition l × (length page.now ≡ 64 * l.least) × ((read_head l.least page.now).count ≤ 5 * l.least) × (v < r) }
+    requires { (length page.now ≡ 64 * l.least) × ((read_head l.least page.now).count ≤ 5 * l.least) × (v < r) }
     ensures { BehindUpto v r result × QuietPart l.least page.now v result }
 {
     if r - v == 1 {
         return r;
     }
     let h = page::head_of(page, l);
-    let count = h.count;
     let mut q = notes::sooner(v, notes::sooner(v, r, h.start), h.end);
-    let mut i = 0;
-    while i < count {
+    for i in 0..h.count {
         let e = page::entry_at(page, i);
         q = notes::sooner(v, notes::sooner(v, q, e.start), e.end);
-        i += 1;
     }
     q
 }

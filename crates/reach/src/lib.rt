@@ -8,8 +8,6 @@ mod marks;
 
 ghost use Rattle.std.specs.Prelude.{◌≡◌, ◌&&◌, not, ◌-◌, ◌≤◌, eqb};
 ghost use Rattle.model.specs.Entry.{within};
-ghost use Rattle.model.specs.Limits.{Edition};
-ghost use Rattle.model.specs.Sound.{same};
 ghost use Rattle.model.specs.Layout.{read_pages, size_of};
 ghost use Rattle.notes.specs.Ready.{Ready};
 ghost use Rattle.reach.specs.Versions.{version_ok, marked_well};
@@ -21,54 +19,26 @@ use page::Head;
 fn used_at(h: Head, v: u32) -> bool
     ensures { result ≡ (not (eqb h.level 0) && within h.start h.end v) }
 {
-    if h.level == 0 {
-        return false;
-    }
-    if v < h.start {
-        return false;
-    }
-    v < h.end
-}
-
-fn same(a: bool, b: bool) -> bool
-    ensures { result ≡ same a b }
-{
-    if a {
-        return b;
-    }
-    !b
+    h.level != 0 && h.start <= v && v < h.end
 }
 
 // Rule 6 at v: each used page is marked at a version of its span, and no other.
-fn reached(s: &[u8], l: Limits, h: Header, marks: [bool; 4096], v: u32) -> bool
-    requires { Edition l × Ready l.least s.now h }
-    ensures { result ≡ marked_well v marks 5 (read_pages l.least s.now 5 (size_of l.least s.now - 5)) }
+fn reached(s: &[u8], l: Limits, h: Header, marks: &[bool; 4096], v: u32) -> bool
+    requires { Ready l.least s.now h }
+    ensures { result ≡ marked_well v marks.now 5 (read_pages l.least s.now 5 (size_of l.least s.now - 5)) }
 {
-    let pages = model::wide(h.pages);
-    let mut n = 5;
-    while n < pages {
-        let f = page::head_of(store::part(s, l, n), l);
-        let want = used_at(f, v);
-        if !same(want, marks[n]) {
-            return false;
-        }
-        n += 1;
-    }
-    true
+    (5..h.pages as usize).all(|n| used_at(page::head_of(store::part(s, l, n), l), v) == marks[n])
 }
 
 // Rule 6 at one version.
 pub fn version_ok(s: &[u8], l: Limits, h: Header, v: u32) -> bool
-    requires { Edition l × Ready l.least s.now h × (v ≤ 1048574) × (h.oldest ≤ v) }
+    requires { Ready l.least s.now h × (v ≤ 1048574) × (h.oldest ≤ v) }
     ensures { result ≡ version_ok l.least 6 s.now v }
 {
     let root = notes::root_at(s, l, h, v);
-    let f = page::head_of(store::part(s, l, root), l);
-    let up = model::wide(f.level) - 1;
-    let w = crate::marks::walk(s, l, root, up, v, v + 1, 6);
-    if w.broken != 0 {
-        return false;
+    let up = page::head_of(store::part(s, l, root), l).level as usize - 1;
+    match crate::marks::walk(s, l, root, up, v, v + 1, 6) {
+        Some(marks) => reached(s, l, h, &marks, v),
+        None => false,
     }
-    let marks = w.marks;
-    reached(s, l, h, marks, v)
 }

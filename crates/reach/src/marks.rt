@@ -1,11 +1,9 @@
 // "walk from its root over entries alive then": one walk, for one rule, over a stretch of versions.
-ghost use Rattle.std.specs.Prelude.{◌≡◌, ◌&&◌, ltb, eqb, ◌+◌, ◌≤◌, ◌<◌};
-ghost use Rattle.model.specs.Basic.{pick};
-ghost use Rattle.model.specs.Limits.{Edition};
+ghost use Rattle.std.specs.Prelude.{◌≡◌, ◌+◌, ◌≤◌, ◌<◌};
 ghost use Rattle.model.specs.Layout.{read_header};
 ghost use Rattle.local.specs.Local.{IsPage, level_at};
 ghost use Rattle.notes.specs.Linked.{Linked};
-ghost use Rattle.reach.specs.Pending.{Tells, rest_of};
+ghost use Rattle.reach.specs.Pending.{Tells};
 
 use model::Limits;
 
@@ -22,60 +20,28 @@ pub(crate) struct Item {
     pub upto: u32,
 }
 
-// What a walk gives: the rule that is broken, or 0, and "a mark for each of up to 4,096 page numbers", set for those it reached.
-#[derive(Clone, Copy)]
-pub(crate) struct Walked {
-    pub broken: u32,
-    pub marks: [bool; 4096],
-}
-
-// The same page from version c on.
-fn rest(it: Item, c: u32) -> Item
-    ensures { result ≡ rest_of it c }
-{
-    Item {
-        page: it.page,
-        up: it.up,
-        root: it.root,
-        low: it.low,
-        high: it.high,
-        from: c,
-        upto: it.upto,
-    }
-}
-
-// 1 if something is left of a stretch from c on, else 0.
-fn more(c: u32, upto: u32) -> usize
-    ensures { result ≡ pick (ltb c upto) 1 0 }
-{
-    if c < upto {
-        return 1;
-    }
-    0
-}
-
-// Whether a page is marked and nothing more: rule 6 asks only which pages are reached, and below a leaf there is none.
-fn only_marked(rule: u32, up: usize) -> bool
-    ensures { result ≡ (eqb rule 6 && eqb up 0) }
-{
-    if rule != 6 {
-        return false;
-    }
-    up == 0
-}
-
 // The walk for one rule, at each version from a up to, not including, b. "the walk down stops at the first page that breaks a rule".
 // A page is tested once for each stretch in which nothing of it starts or ends; what is left of its versions waits below its routers.
-// So the pages that wait are at most 41 for each of the 7 levels, and the root.
-pub(crate) fn walk(s: &[u8], l: Limits, root: usize, up: usize, a: u32, b: u32, rule: u32) -> Walked
-    requires { Edition l × Linked l.least s.now × IsPage l.least s.now root × (level_at l.least s.now root ≡ up + 1)
-        × (up ≤ 6) × (a < b) × ((read_header l.least s.now).oldest ≤ a) }
+// So the pages that wait are at most 41 for each of the 7 levels, and the root: fixed memory, as there is no heap.
+// Rule 6 asks only which pages are reached, so that a leaf is marked and no more. A mark for each of up to 4,096 page numbers, set for
+// those it reached; None if the rule is broken. The rule is a number, as in the definitions (specs/Pending).
+pub(crate) fn walk(
+    s: &[u8],
+    l: Limits,
+    root: usize,
+    up: usize,
+    a: u32,
+    b: u32,
+    rule: u32,
+) -> Option<[bool; 4096]>
+    requires { Linked l.least s.now × IsPage l.least s.now root × (level_at l.least s.now root ≡ up + 1) × (up ≤ 6) × (a < b)
+        × ((read_header l.least s.now).oldest ≤ a) }
     ensures { Tells l.least s.now root up a b rule result }
 {
     let mut marks = [false; 4096];
     let first = Item {
         page: root,
-        up: up,
+        up,
         root: true,
         low: 0,
         high: 16777216,
@@ -84,14 +50,11 @@ pub(crate) fn walk(s: &[u8], l: Limits, root: usize, up: usize, a: u32, b: u32, 
     };
     let mut items = [first; 288];
     let mut top: usize = 1;
-    let broken = 'walk: loop {
-        if top == 0 {
-            break 'walk 0;
-        }
+    'walk: while 0 < top {
         top -= 1;
         let it = items[top];
         let n = it.page;
-        if only_marked(rule, it.up) {
+        if rule == 6 && it.up == 0 {
             marks[n] = true;
             continue 'walk;
         }
@@ -99,10 +62,10 @@ pub(crate) fn walk(s: &[u8], l: Limits, root: usize, up: usize, a: u32, b: u32, 
         let h = page::head_of(p, l);
         let count = h.count;
         let c = crate::change::page_change(p, l, it.from, it.upto);
-        items[top] = rest(it, c);
-        top += more(c, it.upto);
+        items[top] = Item { from: c, ..it };
+        top += usize::from(c < it.upto);
         if !crate::live::opens(p, l, it.from, count, rule, it) {
-            break 'walk rule;
+            return None;
         }
         marks[n] = true;
         let mut j = crate::live::next_live(p, it.from, 0, count);
@@ -111,11 +74,11 @@ pub(crate) fn walk(s: &[u8], l: Limits, root: usize, up: usize, a: u32, b: u32, 
             let k = crate::live::next_live(p, it.from, j + 1, count);
             let next = crate::live::upper(p, k, count, it.high);
             if !crate::live::steps(rule, it.low, it.high, next, e.key) {
-                break 'walk rule;
+                return None;
             }
             if 0 < it.up {
                 items[top] = Item {
-                    page: model::wide(e.value),
+                    page: e.value as usize,
                     up: it.up - 1,
                     root: false,
                     low: e.key,
@@ -127,9 +90,6 @@ pub(crate) fn walk(s: &[u8], l: Limits, root: usize, up: usize, a: u32, b: u32, 
             }
             j = k;
         }
-    };
-    Walked {
-        broken: broken,
-        marks: marks,
     }
+    Some(marks)
 }

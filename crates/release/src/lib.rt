@@ -14,7 +14,7 @@ ghost use Rattle.walk.specs.Sure.{Walkable};
 ghost use Rattle.release.specs.Settled.{has, settled, leaf_settled};
 ghost use Rattle.release.specs.Opened.{Opened};
 
-use model::{Entry, Limits, Looked};
+use model::{Entry, Limits};
 
 // Whether version v has an entry's key with its value.
 fn has(s: &[u8], l: Limits, e: Entry, v: u32) -> bool
@@ -22,9 +22,8 @@ fn has(s: &[u8], l: Limits, e: Entry, v: u32) -> bool
     ensures { result ≡ has (decode l.least s.now) v e }
 {
     match walk::lookup(s, l, e.key, v) {
-        Looked::Value(x) => x == e.value,
-        Looked::Absent => false,
-        Looked::Refused(_) => false,
+        Some(x) => x == e.value,
+        None => false,
     }
 }
 
@@ -34,12 +33,10 @@ fn settled(s: &[u8], l: Limits, c: u32, e: Entry) -> bool
     ensures { result ≡ settled (decode l.least s.now) e }
 {
     if e.start == c + 1 {
-        return has(s, l, e, c);
+        has(s, l, e, c)
+    } else {
+        e.end != c + 1 || has(s, l, e, c + 1)
     }
-    if e.end == c + 1 {
-        return has(s, l, e, c + 1);
-    }
-    true
 }
 
 // Whether entry i of a leaf's part p does. One that does not start or end at the open version is not read further.
@@ -47,10 +44,7 @@ fn entry_settled(s: &[u8], l: Limits, c: u32, p: &[u8], i: usize) -> bool
     requires { Opened l s.now c × (16 + 12 * i + 12 ≤ length p.now) × (length p.now ≤ 2 ^ 40) }
     ensures { result ≡ settled (decode l.least s.now) (read_entry p.now (128 + 96 * i)) }
 {
-    if !page::words::may_turn(p, i, c + 1) {
-        return true;
-    }
-    settled(s, l, c, page::entry_at(p, i))
+    !page::words::may_turn(p, i, c + 1) || settled(s, l, c, page::entry_at(p, i))
 }
 
 // Whether each entry of the leaf n does: at most as many steps as a page has entries.
@@ -60,14 +54,11 @@ fn entries_settled(s: &[u8], l: Limits, c: u32, n: usize) -> bool
         (page (decode l.least s.now).pages n).entries }
 {
     let p = store::part(s, l, n);
-    let h = page::head_of(p, l);
-    let count = h.count;
-    let mut i = 0;
-    while i < count {
+    let count = page::head_of(p, l).count;
+    for i in 0..count {
         if !entry_settled(s, l, c, p, i) {
             return false;
         }
-        i += 1;
     }
     true
 }
@@ -79,10 +70,7 @@ fn leaf_settled(s: &[u8], l: Limits, c: u32, n: usize) -> bool
         (page (decode l.least s.now).pages n).entries }
 {
     let h = page::head_of(store::part(s, l, n), l);
-    if h.end <= c {
-        return true;
-    }
-    entries_settled(s, l, c, n)
+    h.end <= c || entries_settled(s, l, c, n)
 }
 
 // Whether each entry of page n does, if it is a leaf.
@@ -91,10 +79,7 @@ fn page_settled(s: &[u8], l: Limits, c: u32, n: usize) -> bool
     ensures { result ≡ leaf_settled (decode l.least s.now) (page (decode l.least s.now).pages n) }
 {
     let h = page::head_of(store::part(s, l, n), l);
-    if h.level != 1 {
-        return true;
-    }
-    leaf_settled(s, l, c, n)
+    h.level != 1 || leaf_settled(s, l, c, n)
 }
 
 // Whether the open version's settings equal those of the current version c.
@@ -102,14 +87,11 @@ pub fn unchanged(s: &[u8], l: Limits, c: u32) -> bool
     requires { Opened l s.now c }
     ensures { result ≡ unchanged (decode l.least s.now) }
 {
-    let h = store::header(s, l);
-    let size = model::wide(h.pages);
-    let mut n = 5;
-    while n < size {
+    let size = store::header(s, l).pages as usize;
+    for n in 5..size {
         if !page_settled(s, l, c, n) {
             return false;
         }
-        n += 1;
     }
     true
 }

@@ -18,16 +18,8 @@ ghost use Rattle.root.specs.Root.{Roots};
 
 use edit::Change;
 use gather::Gather;
-use model::Limits;
+use model::{Limits, Refusal};
 pub use slots::{slot_left, take_slot};
-
-// What comes of the root: it stays the root, or another page becomes it, or a page is lacking.
-#[derive(Clone, Copy)]
-pub enum Rooted {
-    Stays,
-    Moves(usize),
-    Lacks,
-}
 
 // The root goes, and "that child becomes the root": the page of its first wanted router.
 fn give_way(s: &mut [u8], l: Limits, w: u32, n: usize, want: Gather) -> usize
@@ -35,14 +27,20 @@ fn give_way(s: &mut [u8], l: Limits, w: u32, n: usize, want: Gather) -> usize
     ensures { (result ≡ (get_or (pairs_in want) 0 nil).value)
         × Becomes l s.old s.new (set (pages_of l s.old) n (gone w (page (pages_of l s.old) n))) }
 {
-    let list = want.list;
-    let x = list[0];
     parts::go_in(s, l, n, w);
-    model::wide(x.value)
+    want.list[0].value as usize
 }
 
-// "First of all, an index root whose wanted list is one router goes"; else the root takes its change in place, or is rebuilt alone.
-pub fn work_root(s: &mut [u8], l: Limits, w: u32, n: usize, c: Change, size: usize) -> Rooted
+// "First of all, an index root whose wanted list is one router goes"; else the root takes its change in place, or is rebuilt alone. Gives the page
+// that becomes the root, or nothing where it stays.
+pub fn work_root(
+    s: &mut [u8],
+    l: Limits,
+    w: u32,
+    n: usize,
+    c: Change,
+    size: usize,
+) -> Result<Option<usize>, Refusal>
     requires { ExactBytes l s.old × Inside l s.old n × Fits c × (w < 2 ^ 20) × (size ≡ length (pages_of l s.old))
         × ((page (pages_of l s.old) n).level < 15) }
     ensures { Roots l s.old s.new
@@ -50,11 +48,11 @@ pub fn work_root(s: &mut [u8], l: Limits, w: u32, n: usize, c: Change, size: usi
 {
     let want = parts::wanted_of(s, l, n, w, c);
     if group::goes(s, l, n, want.n) {
-        return Rooted::Moves(give_way(s, l, w, n, want));
+        return Ok(Some(give_way(s, l, w, n, want)));
     }
     if parts::has_room(s, l, n, w, c) {
         parts::change_in(s, l, n, w, c);
-        return Rooted::Stays;
+        return Ok(None);
     }
     let level = parts::level_of(s, l, n);
     renew::new_root(s, l, w, level, renew::alone(n, want), size)

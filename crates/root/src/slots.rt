@@ -13,8 +13,7 @@ fn has_slot(s: &[u8], l: Limits) -> bool
     ensures { result ≡ has_slot (decode l.least s.now) }
 {
     let h = store::header(s, l);
-    let x = store::slot(s, l, model::wide(h.roots - 1));
-    x.version == h.current + 1
+    store::slot(s, l, h.roots as usize - 1).version == h.current + 1
 }
 
 // Whether a new root finds a slot: else "the rules need a 257th".
@@ -23,7 +22,7 @@ pub fn slot_left(s: &[u8], l: Limits) -> bool
     ensures { result ≡ slot_left l.least (decode l.least s.now) }
 {
     let h = store::header(s, l);
-    edit::either(has_slot(s, l), model::wide(h.roots) < l.slots)
+    has_slot(s, l) || (h.roots as usize) < l.slots
 }
 
 // The open version's slot leads to page n from now on.
@@ -32,15 +31,11 @@ fn replace_slot(s: &mut [u8], l: Limits, n: usize)
     ensures { s.new ≡ with_open_slot l s.old n }
 {
     let h = store::header(s, l);
-    store::put_slot(
-        s,
-        l,
-        model::wide(h.roots - 1),
-        Slot {
-            version: h.current + 1,
-            root: n as u32,
-        },
-    );
+    let x = Slot {
+        version: h.current + 1,
+        root: n as u32,
+    };
+    store::put_slot(s, l, h.roots as usize - 1, x);
 }
 
 // The open version takes a slot, which leads to page n.
@@ -50,15 +45,11 @@ fn add_slot(s: &mut [u8], l: Limits, n: usize)
     ensures { s.new ≡ with_open_slot l s.old n }
 {
     let h = store::header(s, l);
-    store::put_slot(
-        s,
-        l,
-        model::wide(h.roots),
-        Slot {
-            version: h.current + 1,
-            root: n as u32,
-        },
-    );
+    let x = Slot {
+        version: h.current + 1,
+        root: n as u32,
+    };
+    store::put_slot(s, l, h.roots as usize, x);
     store::put_header(s, l, h.with_roots(h.roots + 1));
 }
 

@@ -13,3 +13,4 @@ pub mod Pages
 pub mod Set
 pub mod Slots
 pub mod Tested
+pub mod Refused

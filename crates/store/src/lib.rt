@@ -1,26 +1,26 @@
 // A store in its bytes: the header, the root directory, each page's part, and making a fresh one.
 #![tactic(auto)]
 
-use model::{Header, Limits, Slot};
+use model::{Header, Limits, Refusal, Slot};
 
 mod editions;
 mod make;
 
 ghost use Rattle.std.specs.Prelude.{◌≡◌, ◌+◌, ◌*◌, ◌^◌, ◌≤◌, ◌<◌, length};
-ghost use Rattle.model.specs.Limits.{Edition, edition_of};
+ghost use Rattle.model.specs.Limits.{edition_of};
 ghost use Rattle.model.specs.Field.{lay};
 ghost use Rattle.model.specs.Store.{fresh};
 ghost use Rattle.model.specs.Layout.{read_header, read_slot, page_of, size_of, bit};
 ghost use Rattle.model.specs.Judged.{length_ok, magic_ok, edition_ok};
 ghost use Rattle.model.specs.Lent.{fresh_lent};
+ghost use Rattle.model.specs.Refusals.{number_in};
 ghost use Rattle.store.specs.Slots.{SlotFits, slot_parts};
 ghost use Rattle.store.specs.Header.{HeaderFits, put_header, header_by};
 
-pub use editions::{Lent, edition_lent};
+pub use editions::edition_lent;
 
 // The number of pages that the length makes.
 pub fn size(s: &[u8], l: Limits) -> usize
-    requires { Edition l }
     ensures { result ≡ size_of l.least s.now }
 {
     s.len() / l.bytes
@@ -28,17 +28,9 @@ pub fn size(s: &[u8], l: Limits) -> usize
 
 // Whether the length is 6 to 4,096 whole pages.
 pub fn whole(s: &[u8], l: Limits) -> bool
-    requires { Edition l }
     ensures { result ≡ length_ok l.least s.now }
 {
-    if s.len() % l.bytes != 0 {
-        return false;
-    }
-    let n = size(s, l);
-    if n < 6 {
-        return false;
-    }
-    n <= 4096
+    s.len() % l.bytes == 0 && (6..=4096).contains(&size(s, l))
 }
 
 // Whether the first four bytes are those of a store.
@@ -46,20 +38,12 @@ pub fn named(s: &[u8]) -> bool
     requires { 4 ≤ length s.now }
     ensures { result ≡ magic_ok s.now }
 {
-    let name = b"RCST";
-    let mut i = 0;
-    while i < 4 {
-        if s[i] != name[i] {
-            return false;
-        }
-        i += 1;
-    }
-    true
+    s.starts_with(b"RCST")
 }
 
 // Whether the edition is that of the limits.
 pub fn of_edition(s: &[u8], l: Limits) -> bool
-    requires { Edition l × (5 ≤ length s.now) × (length s.now ≤ 2 ^ 40) }
+    requires { (5 ≤ length s.now) × (length s.now ≤ 2 ^ 40) }
     ensures { result ≡ edition_ok l.least s.now }
 {
     bits::field(s, 32, 8) == model::edition_of(l)
@@ -82,18 +66,19 @@ fn header_by(s: &[u8], rooter: usize, aged: usize) -> Header
 
 // The header. The widths are said as numbers, as a page's front has them.
 pub fn header(s: &[u8], l: Limits) -> Header
-    requires { Edition l × (64 * l.least ≤ length s.now) × (length s.now ≤ 2 ^ 40) }
+    requires { (64 * l.least ≤ length s.now) × (length s.now ≤ 2 ^ 40) }
     ensures { result ≡ read_header l.least s.now }
 {
     if l.least <= 4 {
-        return header_by(s, 9, 0);
+        header_by(s, 9, 0)
+    } else {
+        header_by(s, 10, 20)
     }
-    header_by(s, 10, 20)
 }
 
 // Slot i of the root directory, which begins behind the header's page.
 pub fn slot(s: &[u8], l: Limits, i: usize) -> Slot
-    requires { Edition l × (5 * (64 * l.least) ≤ length s.now) × (i < 64 * l.least) × (length s.now ≤ 2 ^ 40) }
+    requires { (5 * (64 * l.least) ≤ length s.now) × (i < 64 * l.least) × (length s.now ≤ 2 ^ 40) }
     ensures { result ≡ read_slot s.now (512 * l.least + 32 * i) }
 {
     let o = 8 * l.bytes + 32 * i;
@@ -105,7 +90,7 @@ pub fn slot(s: &[u8], l: Limits, i: usize) -> Slot
 
 // Where page n begins: no other function multiplies a page number by the page bytes.
 pub fn offset(l: Limits, n: usize) -> usize
-    requires { Edition l × (n * (64 * l.least) ≤ 2 ^ 40) }
+    requires { n * (64 * l.least) ≤ 2 ^ 40 }
     ensures { result ≡ n * (64 * l.least) }
 {
     n * l.bytes
@@ -114,34 +99,28 @@ pub fn offset(l: Limits, n: usize) -> usize
 // Page n of a store, handed on as a part. To write in it, a caller lends `&mut s[a..a + l.bytes]` with `a` the page's offset: what
 // then stands in the whole is `with_page` (specs/Parts).
 pub fn part(s: &[u8], l: Limits, n: usize) -> &[u8]
-    requires { Edition l × (n * (64 * l.least) + 64 * l.least ≤ length s.now) × (length s.now ≤ 2 ^ 40) }
+    requires { (n * (64 * l.least) + 64 * l.least ≤ length s.now) × (length s.now ≤ 2 ^ 40) }
     ensures { (result.now ≡ page_of l.least s.now n) × (length result.now ≡ 64 * l.least) }
 {
     let a = offset(l, n);
     &s[a..a + l.bytes]
 }
 
-fn flag(b: bool) -> u64
-    ensures { result ≡ bit b }
-{
-    if b { 1 } else { 0 }
-}
-
 // Writes the header, all but the name and the edition.
 pub fn put_header(s: &mut [u8], l: Limits, h: Header)
-    requires { Edition l × HeaderFits l.least h × (64 * l.least ≤ length s.old) × (length s.old ≤ 2 ^ 40) }
+    requires { HeaderFits l.least h × (64 * l.least ≤ length s.old) × (length s.old ≤ 2 ^ 40) }
     ensures { s.new ≡ put_header l.least s.old h }
 {
     bits::put_field(s, 40, 13, h.pages as u64);
     bits::put_field(s, 53, 20, h.current as u64);
-    bits::put_field(s, 73, 1, flag(h.opened));
+    bits::put_field(s, 73, 1, h.opened as u64);
     bits::put_field(s, 74, l.rooter, h.roots as u64);
     bits::put_field(s, 74 + l.rooter, l.aged, h.oldest as u64);
 }
 
 // Writes slot i of the root directory.
 pub fn put_slot(s: &mut [u8], l: Limits, i: usize, x: Slot)
-    requires { Edition l × SlotFits x × (5 * (64 * l.least) ≤ length s.old) × (i < 64 * l.least) × (length s.old ≤ 2 ^ 40) }
+    requires { SlotFits x × (5 * (64 * l.least) ≤ length s.old) × (i < 64 * l.least) × (length s.old ≤ 2 ^ 40) }
     ensures { s.new ≡ lay s.old (512 * l.least + 32 * i) (slot_parts x) }
 {
     let o = 8 * l.bytes + 32 * i;
@@ -150,28 +129,27 @@ pub fn put_slot(s: &mut [u8], l: Limits, i: usize, x: Slot)
 }
 
 // Making fresh, of an edition: 1 for a length that is not 6 to 4,096 whole pages, and then not a byte changes.
-fn fresh_in(s: &mut [u8], l: Limits, edition: u8) -> u32
-    requires { Edition l × (edition ≡ edition_of l.least) }
-    ensures { (result ≡ (fresh_lent l.least s.old).number)
+fn fresh_in(s: &mut [u8], l: Limits) -> Result<(), Refusal>
+    ensures { (number_in result ≡ (fresh_lent l.least s.old).number)
         × (s.new ≡ (fresh_lent l.least s.old).store) }
 {
     if !whole(s, l) {
-        return 1;
+        return Err(Refusal::WrongLength);
     }
-    make::make(s, l, edition);
-    0
+    make::make(s, l);
+    Ok(())
 }
 
 // Making a fresh store of edition 1.
-pub fn fresh(s: &mut [u8]) -> u32
-    ensures { (result ≡ (fresh_lent 4 s.old).number) × (s.new ≡ (fresh_lent 4 s.old).store) }
+pub fn fresh(s: &mut [u8]) -> Result<(), Refusal>
+    ensures { (number_in result ≡ (fresh_lent 4 s.old).number) × (s.new ≡ (fresh_lent 4 s.old).store) }
 {
-    fresh_in(s, model::edition_one(), 1)
+    fresh_in(s, model::edition_one())
 }
 
 // Making a fresh store of edition 2.
-pub fn fresh_second(s: &mut [u8]) -> u32
-    ensures { (result ≡ (fresh_lent 8 s.old).number) × (s.new ≡ (fresh_lent 8 s.old).store) }
+pub fn fresh_second(s: &mut [u8]) -> Result<(), Refusal>
+    ensures { (number_in result ≡ (fresh_lent 8 s.old).number) × (s.new ≡ (fresh_lent 8 s.old).store) }
 {
-    fresh_in(s, model::edition_two(), 2)
+    fresh_in(s, model::edition_two())
 }

@@ -1,6 +1,6 @@
 // Making a fresh store: each write takes the bytes one stage further (specs/Fresh).
 ghost use Rattle.std.specs.Prelude.{◌≡◌, ◌*◌, ◌^◌, ◌≤◌, length};
-ghost use Rattle.model.specs.Limits.{Edition, edition_of};
+ghost use Rattle.model.specs.Limits.{edition_of};
 ghost use Rattle.model.specs.Field.{lay, Bytes};
 ghost use Rattle.model.specs.Store.{fresh};
 ghost use Rattle.model.specs.Layout.{page_of, with_page, size_of, encode};
@@ -17,17 +17,13 @@ fn put_name(s: &mut [u8], edition: u8)
     requires { (5 ≤ length s.old) × Bytes s.old }
     ensures { s.new ≡ lay s.old 0 (named_by edition) }
 {
-    let name = b"RCST";
-    s[0] = name[0];
-    s[1] = name[1];
-    s[2] = name[2];
-    s[3] = name[3];
+    s[..4].copy_from_slice(b"RCST");
     s[4] = edition;
 }
 
 // Page 5 of a fresh store: a leaf of version 0 with no entry.
 fn put_root(s: &mut [u8], l: Limits)
-    requires { Edition l × (6 * (64 * l.least) ≤ length s.old) × (length s.old ≤ 2 ^ 40) }
+    requires { (6 * (64 * l.least) ≤ length s.old) × (length s.old ≤ 2 ^ 40) }
     ensures { s.new ≡ with_page l.least s.old 5
         (put_head l.least (page_of l.least s.old 5) root_head) }
 {
@@ -45,13 +41,13 @@ fn put_root(s: &mut [u8], l: Limits)
 }
 
 // Makes the fresh store of an edition, from any bytes.
-pub fn make(s: &mut [u8], l: Limits, edition: u8)
-    requires { Edition l × (edition ≡ edition_of l.least) × Whole l.least s.old }
+pub fn make(s: &mut [u8], l: Limits)
+    requires { Whole l.least s.old }
     ensures { s.new ≡ encode l.least (fresh (size_of l.least s.old)) }
 {
     let n = crate::size(s, l);
     page::clear(s);
-    put_name(s, edition);
+    put_name(s, model::edition_of(l) as u8);
     crate::put_header(
         s,
         l,

@@ -8,7 +8,6 @@ mod write;
 ghost use Rattle.std.specs.Prelude.{◌≡◌, ◌^◌, ◌≤◌, length};
 ghost use Rattle.model.specs.Page.{pairs_at};
 ghost use Rattle.model.specs.Store.{page};
-ghost use Rattle.model.specs.Limits.{Edition};
 ghost use Rattle.model.specs.Layout.{decode};
 ghost use Rattle.model.specs.Near.{starts_by};
 ghost use Rattle.walk.specs.Sure.{PageStands};
@@ -29,7 +28,7 @@ pub struct Asked {
 
 // Whether page n has a router alive at v at or below a key.
 pub fn starts(s: &[u8], l: Limits, n: usize, v: u32, key: u32) -> bool
-    requires { Edition l × PageStands l.least s.now n × (length s.now ≤ 2 ^ 40) }
+    requires { PageStands l.least s.now n × (length s.now ≤ 2 ^ 40) }
     ensures { result ≡ starts_by key (pairs_at v (page (decode l.least s.now).pages n)) }
 {
     let p = store::part(s, l, n);

@@ -26,8 +26,7 @@ fn next_some(table: &[usize], s: &[u8], l: Limits, q: Query, n: usize, up: usize
     let count = h.count;
     let mut k = walk::next_place(p, count, q.version, 0, q.high, i);
     while k < count {
-        let here = crate::table::cell(table, l, n, k);
-        if here != crate::table::cell(table, l, n, k + 1) {
+        if crate::table::cell(table, l, n, k) != crate::table::cell(table, l, n, k + 1) {
             return k;
         }
         k = walk::next_place(p, count, q.version, 0, q.high, k + 1);
@@ -61,11 +60,11 @@ pub fn gather_by(
         return walk::settings(p, count, q, list, found);
     }
     let o = walk::own_router(p, count, q.version, at);
-    let mut k = gather_by(table, s, l, q, model::wide(o.page), up - 1, at, list, found);
+    let mut k = gather_by(table, s, l, q, o.page as usize, up - 1, at, list, found);
     let mut i = next_some(table, s, l, q, n, up - 1, o.next);
     while i < count {
         let e = page::entry_at(p, i);
-        k = gather_by(table, s, l, q, model::wide(e.value), up - 1, e.key, list, k);
+        k = gather_by(table, s, l, q, e.value as usize, up - 1, e.key, list, k);
         i = next_some(table, s, l, q, n, up - 1, i + 1);
     }
     k

@@ -5,11 +5,11 @@
 mod single;
 
 ghost use Rattle.std.specs.Prelude.{◌≡◌, true, ◌<◌, length};
-ghost use Rattle.model.specs.Limits.{Edition};
 ghost use Rattle.model.specs.Store.{free_ones, next};
 ghost use Rattle.model.specs.Walk.{key_limit};
 ghost use Rattle.model.specs.Layout.{decode};
 ghost use Rattle.model.specs.Judged.{is_sound};
+ghost use Rattle.model.specs.Refusals.{number_in};
 ghost use Rattle.model.specs.Climb.{update};
 ghost use Rattle.model.specs.Needs.{slot_left};
 ghost use Rattle.outlook.specs.Plan.{plan_up, outlook_number};
@@ -23,32 +23,22 @@ ghost use Rattle.update.specs.Applied.{at_root, from_leaf, ToRoot, ToApply};
 ghost use Rattle.update.specs.Whole.{LeavesSound};
 ghost use Rattle.root.specs.Slotted.{Slotted};
 
-use climb::Worked;
 use edit::Change;
-use model::Limits;
-use plan::{Outlook, Way};
-use root::Rooted;
+use model::{Limits, Refusal};
+use plan::Way;
 pub use single::{delete_at, insert_at, raw_delete, raw_insert};
 
-// The number that a change will come to: 12 "the rules need a page and none is free", 13 "the rules need a 257th slot", else 0.
-fn foresee(s: &[u8], l: Limits, w: u32, way: Way, c: Change, size: usize) -> u32
+// What a change will come to: "the rules need a page and none is free", "the rules need a 257th slot", or neither.
+fn foresee(s: &[u8], l: Limits, w: u32, way: Way, c: Change, size: usize) -> Result<(), Refusal>
     requires { ExactBytes l s.now × Led l s.now way × Fits c × (size ≡ length (pages_of l s.now)) × Slotted l s.now }
-    ensures { result ≡ outlook_number (slot_left l.least (decode l.least s.now))
+    ensures { number_in result ≡ outlook_number (slot_left l.least (decode l.least s.now))
         (plan_up l.least w (pages_of l s.now) way.root (ups_of way.list way.n) (change_of c) (length (free_ones (pages_of l s.now)))) }
 {
-    match plan::plan_up(s, l, w, way, c, parts::count_free(s, l, size)) {
-        Outlook::Keeps => {
-            return 0;
-        }
-        Outlook::Lacks => {
-            return 12;
-        }
-        Outlook::Moves => {}
+    let moves = plan::plan_up(s, l, w, way, c, parts::count_free(s, l, size))?;
+    if moves && !root::slot_left(s, l) {
+        return Err(Refusal::NoSlotFree);
     }
-    if root::slot_left(s, l) {
-        return 0;
-    }
-    13
+    Ok(())
 }
 
 // The root's work, and "the directory slot of the open version" where another page becomes the root.
@@ -57,16 +47,10 @@ fn apply_root(s: &mut [u8], l: Limits, w: u32, n: usize, c: Change, size: usize)
     ensures { s.new ≡ (left l.least s.old (at_root l s.old w n c)).store }
 {
     match root::work_root(s, l, w, n, c, size) {
-        Rooted::Stays => {
-            return;
-        }
+        Ok(Some(m)) => root::take_slot(s, l, m),
+        Ok(None) => {}
         // foreseen, so never met
-        Rooted::Lacks => {
-            return;
-        }
-        Rooted::Moves(m) => {
-            root::take_slot(s, l, m);
-        }
+        Err(_) => {}
     }
 }
 
@@ -76,68 +60,57 @@ fn apply(s: &mut [u8], l: Limits, w: u32, way: Way, c: Change, size: usize)
     ensures { s.new ≡ (left l.least s.old (from_leaf l s.old w way c)).store }
 {
     match climb::climb_up(s, l, w, way, c, size) {
-        Worked::Settled => {
-            return;
-        }
+        Ok(Some(d)) => apply_root(s, l, w, way.root, d, size),
+        Ok(None) => {}
         // foreseen, so never met
-        Worked::Lacking => {
-            return;
-        }
-        Worked::Upward(d) => {
-            apply_root(s, l, w, way.root, d, size);
-        }
+        Err(_) => {}
     }
 }
 
 // The change carried out from the leaf up, once its number is foreseen.
-fn rise(s: &mut [u8], l: Limits, w: u32, key: u32, c: Change) -> u32
-    requires { Edition l × (is_sound l.least s.old ≡ true) × ((decode l.least s.old).opened ≡ true) × (key < key_limit) × Fits c
-        × LeavesSound l.least (update l.least (decode l.least s.old) key (change_of c))
-        × (w ≡ next (decode l.least s.old)) }
-    ensures number { result ≡ (left l.least s.old
+fn rise(s: &mut [u8], l: Limits, w: u32, key: u32, c: Change) -> Result<(), Refusal>
+    requires { (is_sound l.least s.old ≡ true) × ((decode l.least s.old).opened ≡ true) × (key < key_limit) × Fits c
+        × LeavesSound l.least (update l.least (decode l.least s.old) key (change_of c)) × (w ≡ next (decode l.least s.old)) }
+    ensures number { number_in result ≡ (left l.least s.old
         (update l.least (decode l.least s.old) key (change_of c))).number }
     ensures bytes { s.new ≡ (left l.least s.old
         (update l.least (decode l.least s.old) key (change_of c))).store }
 {
     let way = plan::way_to(s, l, w, key);
     let size = parts::size_of(s, l);
-    let n = foresee(s, l, w, way, c, size);
-    if n != 0 {
-        return n;
-    }
+    foresee(s, l, w, way, c, size)?;
     apply(s, l, w, way, c, size);
-    0
+    Ok(())
 }
 
 // The change made at the leaf for a key, page n, or the number that speaks against it. Most leaves take it in place: then no page above
 // is asked, and no free one is counted.
-fn update_at(s: &mut [u8], l: Limits, w: u32, n: usize, key: u32, c: Change) -> u32
-    requires { Edition l × (is_sound l.least s.old ≡ true) × ((decode l.least s.old).opened ≡ true) × (key < key_limit) × Fits c
+fn update_at(s: &mut [u8], l: Limits, w: u32, n: usize, key: u32, c: Change) -> Result<(), Refusal>
+    requires { (is_sound l.least s.old ≡ true) × ((decode l.least s.old).opened ≡ true) × (key < key_limit) × Fits c
         × LeavesSound l.least (update l.least (decode l.least s.old) key (change_of c)) × (w ≡ next (decode l.least s.old))
         × Leaf l s.old w key n }
-    ensures number { result ≡ (left l.least s.old
+    ensures number { number_in result ≡ (left l.least s.old
         (update l.least (decode l.least s.old) key (change_of c))).number }
     ensures bytes { s.new ≡ (left l.least s.old
         (update l.least (decode l.least s.old) key (change_of c))).store }
 {
     if group::takes_in_place(s, l, n, w, c) {
         parts::change_in(s, l, n, w, c);
-        return 0;
+        return Ok(());
     }
     rise(s, l, w, key, c)
 }
 
 // The same by the way down to the leaf.
-pub fn update(s: &mut [u8], l: Limits, key: u32, c: Change) -> u32
-    requires { Edition l × (is_sound l.least s.old ≡ true) × ((decode l.least s.old).opened ≡ true) × (key < key_limit) × Fits c
+pub fn update(s: &mut [u8], l: Limits, key: u32, c: Change) -> Result<(), Refusal>
+    requires { (is_sound l.least s.old ≡ true) × ((decode l.least s.old).opened ≡ true) × (key < key_limit) × Fits c
         × LeavesSound l.least (update l.least (decode l.least s.old) key (change_of c)) }
-    ensures number { result ≡ (left l.least s.old
+    ensures number { number_in result ≡ (left l.least s.old
         (update l.least (decode l.least s.old) key (change_of c))).number }
     ensures bytes { s.new ≡ (left l.least s.old
         (update l.least (decode l.least s.old) key (change_of c))).store }
 {
-    let h = store::header(s, l);
-    let w = h.current + 1;
+    let w = store::header(s, l).current + 1;
     let n = walk::leaf_for(s, l, w, key);
     update_at(s, l, w, n, key, c)
 }

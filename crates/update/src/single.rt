@@ -6,6 +6,7 @@ ghost use Rattle.model.specs.Store.{next};
 ghost use Rattle.model.specs.Layout.{decode};
 ghost use Rattle.model.specs.Climb.{update};
 ghost use Rattle.model.specs.Calls.{raw_insert};
+ghost use Rattle.model.specs.Refusals.{number_in};
 ghost use Rattle.model.specs.Needs.{inserting, deleting};
 ghost use Rattle.model.specs.Lent.{left};
 ghost use Rattle.walk.specs.Down.{Leaf};
@@ -14,7 +15,7 @@ ghost use Rattle.gather.specs.Kept.{Fits};
 ghost use Rattle.update.specs.Single.{Enters, Ends};
 
 use edit::Change;
-use model::{Limits, Pair};
+use model::{Limits, Pair, Refusal};
 
 // A setting comes in.
 fn inserting(key: u32, value: u32) -> Change
@@ -47,9 +48,9 @@ fn deleting(key: u32) -> Change
 }
 
 // The insert of a key that is not alive, bench keys too.
-pub fn raw_insert(s: &mut [u8], l: Limits, key: u32, value: u32) -> u32
+pub fn raw_insert(s: &mut [u8], l: Limits, key: u32, value: u32) -> Result<(), Refusal>
     requires { Enters l s.old key }
-    ensures number { result ≡ (left l.least s.old
+    ensures number { number_in result ≡ (left l.least s.old
         (raw_insert l.least (decode l.least s.old) key value)).number }
     ensures bytes { s.new ≡ (left l.least s.old
         (raw_insert l.least (decode l.least s.old) key value)).store }
@@ -58,9 +59,9 @@ pub fn raw_insert(s: &mut [u8], l: Limits, key: u32, value: u32) -> u32
 }
 
 // The delete of a key that is alive.
-pub fn raw_delete(s: &mut [u8], l: Limits, key: u32) -> u32
+pub fn raw_delete(s: &mut [u8], l: Limits, key: u32) -> Result<(), Refusal>
     requires { Ends l s.old key }
-    ensures number { result ≡ (left l.least s.old
+    ensures number { number_in result ≡ (left l.least s.old
         (update l.least (decode l.least s.old) key (deleting key))).number }
     ensures bytes { s.new ≡ (left l.least s.old
         (update l.least (decode l.least s.old) key (deleting key))).store }
@@ -69,9 +70,16 @@ pub fn raw_delete(s: &mut [u8], l: Limits, key: u32) -> u32
 }
 
 // The same insert where the leaf for its key at the open version w is at hand, page n.
-pub fn insert_at(s: &mut [u8], l: Limits, w: u32, n: usize, key: u32, value: u32) -> u32
+pub fn insert_at(
+    s: &mut [u8],
+    l: Limits,
+    w: u32,
+    n: usize,
+    key: u32,
+    value: u32,
+) -> Result<(), Refusal>
     requires { Enters l s.old key × (w ≡ next (decode l.least s.old)) × Leaf l s.old w key n }
-    ensures number { result ≡ (left l.least s.old
+    ensures number { number_in result ≡ (left l.least s.old
         (raw_insert l.least (decode l.least s.old) key value)).number }
     ensures bytes { s.new ≡ (left l.least s.old
         (raw_insert l.least (decode l.least s.old) key value)).store }
@@ -80,9 +88,9 @@ pub fn insert_at(s: &mut [u8], l: Limits, w: u32, n: usize, key: u32, value: u32
 }
 
 // The same delete.
-pub fn delete_at(s: &mut [u8], l: Limits, w: u32, n: usize, key: u32) -> u32
+pub fn delete_at(s: &mut [u8], l: Limits, w: u32, n: usize, key: u32) -> Result<(), Refusal>
     requires { Ends l s.old key × (w ≡ next (decode l.least s.old)) × Leaf l s.old w key n }
-    ensures number { result ≡ (left l.least s.old
+    ensures number { number_in result ≡ (left l.least s.old
         (update l.least (decode l.least s.old) key (deleting key))).number }
     ensures bytes { s.new ≡ (left l.least s.old
         (update l.least (decode l.least s.old) key (deleting key))).store }

@@ -13,8 +13,11 @@ fn say_bytes(rt: &impl Print, s: &[u8]) -> io::Result<()> {
 }
 
 fn say_verdict(rt: &impl Print, s: &[u8]) -> io::Result<()> {
-    let v = judge::check(s);
-    println!(rt; "check gives {}, rule {}", v.number, v.rule)
+    let (number, rule) = match judge::check(s) {
+        Ok(()) => (0, 0),
+        Err(fault) => (fault.number(), fault.rule()),
+    };
+    println!(rt; "check gives {number}, rule {rule}")
 }
 
 // The bytes from one place up to another, if they are there.
@@ -34,35 +37,30 @@ fn set(s: &mut [u8], at: usize, v: u8) {
     }
 }
 
-fn first(rt: &impl Print) -> io::Result<()> {
-    let mut s = [0xEE; 1536];
-    store::fresh(&mut s);
-    say_part(rt, &s, 0, 11)?;
-    say_part(rt, &s, 256, 260)?;
-    say_part(rt, &s, 1280, 1287)?;
-    say_verdict(rt, &s)?;
-    set(&mut s, 12, 1);
-    say_verdict(rt, &s)?;
-    set(&mut s, 12, 0);
-    set(&mut s, 4, 3);
-    say_verdict(rt, &s)
-}
-
-fn second(rt: &impl Print) -> io::Result<()> {
-    let mut s = [0xEE; 3072];
-    store::fresh_second(&mut s);
-    say_part(rt, &s, 0, 11)?;
-    say_part(rt, &s, 512, 516)?;
-    say_part(rt, &s, 2560, 2567)?;
-    say_verdict(rt, &s)?;
-    set(&mut s, 3071, 1);
-    say_verdict(rt, &s)?;
-    set(&mut s, 3071, 0);
-    set(&mut s, 4, 1);
-    say_verdict(rt, &s)
+// A fresh store's header, its first slot and the front of its root, in pages of so many bytes; judged as it is, with a stray bit at `spare`,
+// and with another edition's number.
+fn show(rt: &impl Print, s: &mut [u8], page: usize, spare: usize, edition: u8) -> io::Result<()> {
+    say_part(rt, s, 0, 11)?;
+    say_part(rt, s, page, page.saturating_add(4))?;
+    say_part(
+        rt,
+        s,
+        page.saturating_mul(5),
+        page.saturating_mul(5).saturating_add(7),
+    )?;
+    say_verdict(rt, s)?;
+    set(s, spare, 1);
+    say_verdict(rt, s)?;
+    set(s, spare, 0);
+    set(s, 4, edition);
+    say_verdict(rt, s)
 }
 
 fn main(rt: HostRuntime) -> io::Result<()> {
-    first(&rt)?;
-    second(&rt)
+    let mut first = [0xEE; 1536];
+    let _ = store::fresh(&mut first);
+    show(&rt, &mut first, 256, 12, 3)?;
+    let mut second = [0xEE; 3072];
+    let _ = store::fresh_second(&mut second);
+    show(&rt, &mut second, 512, 3071, 1)
 }

@@ -6,8 +6,9 @@
 ghost use Rattle.std.specs.Prelude.{◌≡◌};
 ghost use Rattle.model.specs.Any.{lookup_any};
 ghost use Rattle.model.specs.Named.{viewed};
+ghost use Rattle.model.specs.Refusals.{number_in, looked_in};
 
-use model::Looked;
+use model::Refusal;
 use store::edition_lent;
 
 #[derive(Clone, Copy)]
@@ -16,21 +17,17 @@ pub struct Viewer<'a> {
     pub version: u32,
 }
 
-// Whether a viewer of a store at one version may be opened: 0, or the number that speaks against it. No enum may hold a viewer, so this is
-// asked first, and `view` then makes it.
-pub fn opens(store: &[u8], version: u32) -> u32
-    ensures { result ≡ viewed store.now version }
+// Whether a viewer of a store at one version may be opened. This is asked first, and `view` then makes it.
+pub fn opens(store: &[u8], version: u32) -> Result<(), Refusal>
+    ensures { number_in result ≡ viewed store.now version }
 {
-    let e = edition_lent(store);
-    if e.number != 0 {
-        return e.number;
-    }
-    near::guard::guard(store, e.limits, false, version)
+    let l = edition_lent(store)?;
+    near::guard::guard(store, l, false, version)
 }
 
 // The work: a lookup, with the viewer's fields in their order.
-pub fn at(store: &[u8], version: u32, key: u32) -> Looked
-    ensures { result ≡ lookup_any store.now key version }
+pub fn at(store: &[u8], version: u32, key: u32) -> Result<Option<u32>, Refusal>
+    ensures { looked_in result ≡ lookup_any store.now key version }
 {
     calls::lookup(store, key, version)
 }
@@ -43,15 +40,15 @@ pub fn view<'a>(store: &'a [u8], version: u32) -> Viewer<'a>
 }
 
 // What a viewer shows of a key.
-pub fn value<'a>(w: Viewer<'a>, key: u32) -> Looked
-    ensures { result ≡ lookup_any w.entry.store.now key w.entry.version }
+pub fn value<'a>(w: Viewer<'a>, key: u32) -> Result<Option<u32>, Refusal>
+    ensures { looked_in result ≡ lookup_any w.entry.store.now key w.entry.version }
 {
     at(w.store, w.version, key)
 }
 
 // A viewer made, and asked once.
-pub fn view_value(store: &[u8], version: u32, key: u32) -> Looked
-    ensures { result ≡ lookup_any store.now key version }
+pub fn view_value(store: &[u8], version: u32, key: u32) -> Result<Option<u32>, Refusal>
+    ensures { looked_in result ≡ lookup_any store.now key version }
 {
     value(view(store, version), key)
 }

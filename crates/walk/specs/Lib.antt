@@ -1,5 +1,4 @@
 pub mod Written
-pub mod Counted
 pub mod Live
 pub mod Ends
 pub mod Scan

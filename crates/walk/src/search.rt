@@ -1,16 +1,16 @@
 // What is found in one page. Its entries stand by key, so a search ends at the first key above.
-ghost use Rattle.std.specs.Prelude.{◌≡◌, true, ◌&&◌, ◌+◌, ◌*◌, ◌^◌, ◌≤◌, min, length, leb, ltb, [], ◌∷◌};
+ghost use Rattle.std.specs.Prelude.{◌≡◌, true, ◌&&◌, ◌+◌, ◌*◌, ◌^◌, ◌≤◌, length, leb, ltb, [], ◌∷◌};
 ghost use Rattle.model.specs.Basic.{pick};
 ghost use Rattle.model.specs.Entry.{pair_of, live_at};
 ghost use Rattle.model.specs.Walk.{find, between};
-ghost use Rattle.model.specs.Calls.{looked_at};
+ghost use Rattle.model.specs.Refusals.{found_in};
 ghost use Rattle.model.specs.Near.{starts_by};
 ghost use Rattle.walk.specs.Written.{written, PairSpace, PairGathers};
 ghost use Rattle.walk.specs.Live.{live};
 ghost use Rattle.walk.specs.Scan.{Stands, entry, from, Next, answer_at, Owns};
 ghost use Rattle.walk.specs.Places.{Place, Fives};
 
-use model::{Entry, Looked};
+use model::Entry;
 
 // The last router alive at or below a key: the page that it leads to, and the place at which the search for it ended.
 #[derive(Clone, Copy)]
@@ -19,7 +19,8 @@ pub struct Own {
     pub next: usize,
 }
 
-// What a range asks: its low and high keys, its version, and whether the settings found are to be written or only counted.
+// What a range asks: its low and high keys, its version, and whether the settings found are to be written or only counted. That is a flag
+// and no closure, since one contract says of both passes what is `written` (specs/Written).
 #[derive(Clone, Copy)]
 pub struct Query {
     pub low: u32,
@@ -33,10 +34,7 @@ fn alive_from(page: &[u8], i: usize, v: u32, low: u32) -> bool
     requires { (16 + 12 * i + 12 ≤ length page.now) × (length page.now ≤ 2 ^ 40) }
     ensures { result ≡ (leb low (entry page.now i).key && live_at v (entry page.now i)) }
 {
-    if page::words::first_word(page, i) < model::wide(low) * 256 {
-        return false;
-    }
-    page::words::alive_in(page, i, v)
+    low as usize * 256 <= page::words::first_word(page, i) && page::words::alive_in(page, i, v)
 }
 
 // The place of the next entry, from i on, that is alive at v and has its key from low to high; n if there is none.
@@ -44,16 +42,14 @@ pub fn next_place(page: &[u8], n: usize, v: u32, low: u32, high: u32, i: usize) 
     requires { Stands page.now n × (i ≤ n) }
     ensures { Next page.now v low high i n result }
 {
-    let above = model::wide(high) * 256 + 256;
-    let mut k = i;
-    while k < n {
+    let above = high as usize * 256 + 256;
+    for k in i..n {
         if above <= page::words::first_word(page, k) {
             return n;
         }
         if alive_from(page, k, v, low) {
             return k;
         }
-        k += 1;
     }
     n
 }
@@ -63,11 +59,10 @@ fn under(page: &[u8], i: usize, k: u64) -> usize
     requires { (16 + 12 * i + 12 ≤ length page.now) × (length page.now ≤ 2 ^ 40) × (k ≤ 2 ^ 32) }
     ensures { result ≡ pick (ltb (entry page.now i).key k) 1 0 }
 {
-    let w = bits::four(page, 16 + 12 * i) as u64;
-    if w < k * 256 { 1 } else { 0 }
+    usize::from((bits::four(page, 16 + 12 * i) as u64) < k * 256)
 }
 
-// By fives: up to place r all keys are under k, and four places on, if there is an entry, they are not.
+// By fives, so no `for`: up to place r all keys are under k, and four places on, if there is an entry, they are not.
 fn fives(page: &[u8], n: usize, k: u64) -> usize
     requires { Stands page.now n × (k ≤ 2 ^ 32) }
     ensures { Fives page.now k n result }
@@ -82,24 +77,16 @@ fn fives(page: &[u8], n: usize, k: u64) -> usize
     i
 }
 
-fn least(a: usize, b: usize) -> usize
-    ensures { result ≡ min a b }
-{
-    if a < b { a } else { b }
-}
-
 // How many of the first n entries have their key under k: those stand first. Of the last four none is a branch.
 fn place(page: &[u8], n: usize, k: u64) -> usize
     requires { Stands page.now n × (k ≤ 2 ^ 32) }
     ensures { Place page.now k n result }
 {
     let begin = fives(page, n, k);
-    let end = least(n, begin + 4);
+    let end = n.min(begin + 4);
     let mut r = begin;
-    let mut i = begin;
-    while i < end {
+    for i in begin..end {
         r += under(page, i, k);
-        i += 1;
     }
     r
 }
@@ -109,29 +96,28 @@ pub(crate) fn place_of(page: &[u8], n: usize, v: u32, key: u32) -> usize
     requires { Stands page.now n }
     ensures { Next page.now v key key 0 n result }
 {
-    let first = place(page, n, key as u64);
-    next_place(page, n, v, key, key, first)
+    next_place(page, n, v, key, key, place(page, n, key as u64))
 }
 
 // The answer of a lookup whose search ended at place i. An enum that a function gives back goes through memory: this one is short enough
 // to become part of its caller, where a search is not.
-pub(crate) fn answer_at(page: &[u8], n: usize, i: usize) -> Looked
+pub(crate) fn answer_at(page: &[u8], n: usize, i: usize) -> Option<u32>
     requires { Stands page.now n }
-    ensures { result ≡ answer_at page.now n i }
+    ensures { found_in result ≡ answer_at page.now n i }
 {
     if i < n {
-        return Looked::Value(page::words::value_in(page, i));
+        Some(page::words::value_in(page, i))
+    } else {
+        None
     }
-    Looked::Absent
 }
 
 // The value of a key at v.
-pub fn find(page: &[u8], n: usize, v: u32, key: u32) -> Looked
+pub fn find(page: &[u8], n: usize, v: u32, key: u32) -> Option<u32>
     requires { Stands page.now n }
-    ensures { result ≡ looked_at (find key (live v (from page.now 0 n))) }
+    ensures { found_in result ≡ find key (live v (from page.now 0 n)) }
 {
-    let i = place_of(page, n, v, key);
-    answer_at(page, n, i)
+    answer_at(page, n, place_of(page, n, v, key))
 }
 
 // The last router alive at v at or below a key. There is one: the first router of a page has its low key.
@@ -140,9 +126,7 @@ pub fn own_router(page: &[u8], n: usize, v: u32, key: u32) -> Own
     ensures { Owns page.now v key n result }
 {
     let next = place(page, n, key as u64 + 1);
-    let mut i = next;
-    while 0 < i {
-        i -= 1;
+    for i in (0..next).rev() {
         if page::words::alive_in(page, i, v) {
             return Own {
                 page: page::words::value_in(page, i),
@@ -150,7 +134,7 @@ pub fn own_router(page: &[u8], n: usize, v: u32, key: u32) -> Own
             };
         }
     }
-    Own { page: 0, next }
+    unreachable!()
 }
 
 // A setting behind the first k of a list.

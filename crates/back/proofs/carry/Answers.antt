@@ -1,16 +1,17 @@
 -- `carry` meets its contract. Assumes nothing.
+use mathlib.Core.Path.{refl}
+use Rattle.std.proofs.lemmas.Result.{err_from_is_err_and}
+use Rattle.update.proofs.laws.Foreseen.{a_number}
 use Rattle.back.proofs.laws.Both.{first_stops, second_so}
-use borrow.Author.Rules.{rules}
 use Rattle.back.proofs.carry.Goals as goal
 
-pub pass-n-requires : goal.pass-n-requires
-pass-n-requires c = c.requires
+pub returns-in_err-pass : goal.returns-in_err-pass
+returns-in_err-pass c =
+    let p = err_from_is_err_and c.from_residual.result c.from_residual.ensures.1 in
+    rw (p.1, p.2) (first_stops c.requires _ _ c.in_err-pass.ensures (a_number c.in_err-pass.field-0.0))
 
-pub returns-then-n-ne0 : goal.returns-then-n-ne0
-returns-then-n-ne0 c = first_stops c.requires _ _ c.pass-n.ensures c.if-n-ne0.true
-
-pub pass-requires : goal.pass-requires
-pass-requires c = c.pass-n.ensures.going
+pub pass-requires-2 : goal.pass-requires-2
+pass-requires-2 c = c.in_ok-pass.ensures.going
 
 pub returns : goal.returns
-returns c = second_so c.requires _ _ c.pass-n.ensures c.if-n-ne0.false _ _ c.pass.ensures
+returns c = second_so c.requires _ _ c.in_ok-pass.ensures refl _ _ c.pass-2.ensures

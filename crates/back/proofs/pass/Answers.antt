@@ -1,35 +1,32 @@
 -- `pass` meets its contract. Assumes nothing.
-use lib.ListN.{length}
 use Rattle.model.specs.declared.Delta.{Delta}
 use Rattle.model.specs.Layout.{decode}
-use Rattle.model.specs.Walk.{key_limit}
-use Rattle.differ.specs.Listing.{between, left_of}
-use Rattle.back.specs.Going.{Going}
+use Rattle.differ.specs.Listing.{left_of}
 use Rattle.back.proofs.laws.Going.{going-open, going-old}
 use Rattle.back.specs.Pass.{passed}
 use Rattle.back.proofs.laws.Pass.{pass-start, pass_on, pass-goes, pass-stops, pass-end}
 use mathlib.Core.Path.{◌≡◌, refl, ap, ◌∙◌}
 use mathlib.Core.List.{List}
 use native.Mathlib.Omega.{arith}
-use Prim.Native.Nat.{◌+◌, ◌-◌, ◌≤◌}
-use borrow.Author.Rules.{rules}
+use Rattle.std.proofs.lemmas.Result.{err_from_is_err_and}
+use Rattle.update.proofs.laws.Foreseen.{a_number}
 use Rattle.back.proofs.pass.Goals as goal
-use Rattle.back.proofs.pass.Goals.{After-act-n}
+use Rattle.back.proofs.pass.Goals.{After-act}
 
 pub loop-key-init : goal.loop-key-init
 loop-key-init c = (omega arith, c.requires, pass-start c.requires c.args.insert, refl)
 
 pub onward-g-requires : goal.onward-g-requires
-onward-g-requires c = (c.loop-key.invariant.1, omega (arith, c.loop-key-test.true))
+onward-g-requires c = let g = c.loop-key.invariant.1 in (going-open g, going-old g, omega (arith, c.loop-key-test.true))
 
 pub next-d-requires : goal.next-d-requires
 next-d-requires c = let g = c.loop-key.invariant.1 in (going-open g, going-old g)
 
-pub act-n-requires : goal.act-n-requires
-act-n-requires c = (c.loop-key.invariant.1, c.onward-g.ensures.0.high, c.next-d.ensures)
+pub act-requires : goal.act-requires
+act-requires c = (c.loop-key.invariant.1, c.onward-g.ensures.0.high, c.next-d.ensures)
 
 -- nothing is passed over that is asked for
-passes_over : (c : After-act-n) →
+passes_over : (c : After-act) →
     let l = c.loop-key in let a = c.args in
     passed a.insert a.l.least (left_of a.l l.s a.w a.v l.key) (decode a.l.least l.s)
     ≡ passed a.insert a.l.least (left_of a.l l.s a.w a.v c.onward-g.result.key) (decode a.l.least l.s)
@@ -37,18 +34,20 @@ passes_over c =
     let l = c.loop-key in let a = c.args in
     ap (λ (ds : List Delta). passed a.insert a.l.least ds (decode a.l.least l.s)) c.onward-g.ensures.1
 
-pub returns-then-n-ne0 : goal.returns-then-n-ne0
-returns-then-n-ne0 c =
+pub returns-in_err-act : goal.returns-in_err-act
+returns-in_err-act c =
     let l = c.loop-key in
-    let t = c.act-n.ensures in
+    let t = c.in_err-act.ensures in
     let p = c.onward-g in
-    record {
+    let q = err_from_is_err_and c.from_residual.result c.from_residual.ensures.1 in
+    rw (q.1, q.2)
+    (record {
       going = t.went.going;
-      goes = λ z. absurd (c.if-n-ne0.true z);
-      stops = λ z. l.invariant.2 ∙ passes_over (goal.at.returns-then-n-ne0 c).After-act-n
+      goes = λ z. absurd (a_number c.in_err-act.field-0.0 z);
+      stops = λ z. l.invariant.2 ∙ passes_over (goal.at.returns-in_err-act c).After-act
           ∙ pass-stops l.invariant.1 p.result.key p.ensures.0.high c.next-d.result c.next-d.ensures
           c.args.insert _ _ t z;
-    }
+    })
 
 pub overflow_add-key : goal.overflow_add-key
 overflow_add-key c =
@@ -66,14 +65,14 @@ pub loop-key-preserved : goal.loop-key-preserved
 loop-key-preserved c =
     let l = c.loop-key in
     let p = c.onward-g in
-    let t = c.act-n.ensures in
+    let t = c.in_ok-act.ensures in
     let o = pass_on l.invariant.1 p.result.key p.ensures.0.high c.next-d.result c.next-d.ensures in (
       omega (arith, o.high),
       t.went.going,
-      l.invariant.2 ∙ passes_over (goal.at.loop-key-preserved c).After-act-n
+      l.invariant.2 ∙ passes_over (goal.at.loop-key-preserved c).After-act
           ∙ pass-goes l.invariant.1 p.result.key p.ensures.0.high c.next-d.result c.next-d.ensures
-          c.args.insert _ _ t c.if-n-ne0.false,
-      c.act-n.auto.s ∙ l.invariant.3,
+          c.args.insert _ _ t refl,
+      c.act.auto.s ∙ l.invariant.3,
     )
 
 pub returns : goal.returns

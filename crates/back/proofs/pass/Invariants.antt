@@ -1,18 +1,12 @@
 -- `pass` meets its contract. Assumes nothing.
 use lib.ListN.{length}
-use Rattle.model.specs.declared.Delta.{Delta}
 use Rattle.model.specs.Layout.{decode}
 use Rattle.model.specs.Walk.{key_limit}
 use Rattle.differ.specs.Listing.{between, left_of}
 use Rattle.back.specs.Going.{Going}
-use Rattle.back.proofs.laws.Going.{going-open, going-old}
 use Rattle.back.specs.Pass.{passed}
-use Rattle.back.proofs.laws.Pass.{pass-start, pass_on, pass-goes, pass-stops, pass-end}
-use mathlib.Core.Path.{◌≡◌, refl, ap, ◌∙◌}
-use mathlib.Core.List.{List}
-use native.Mathlib.Omega.{arith}
+use mathlib.Core.Path.{◌≡◌}
 use Prim.Native.Nat.{◌+◌, ◌-◌, ◌≤◌}
-use borrow.Author.Rules.{rules}
 use Rattle.back.proofs.pass.Given as goal
 
 abbrev pub invariant-loop-key : goal.invariant-loop-key

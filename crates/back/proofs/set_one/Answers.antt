@@ -1,5 +1,6 @@
 -- `set_one` meets its contract. Assumes nothing.
 use Rattle.back.proofs.laws.Pass.{enters, set-stepped, set-refused, set-none}
+use native.Mathlib.Omega.{arith}
 use borrow.Author.Rules.{rules}
 use Rattle.back.proofs.set_one.Goals as goal
 
@@ -7,22 +8,22 @@ pub raw_insert-requires : goal.raw_insert-requires
 raw_insert-requires c =
     let a = c.args in
     let p = c.requires in
-    enters p.0 a.key p.1 a.d p.2 c.if-d-eq0.true
+    enters p.0 a.key p.1 a.d p.2 c.in-0.is
 
-pub returns-then-d-eq0 : goal.returns-then-d-eq0
-returns-then-d-eq0 c =
+pub returns-in-0 : goal.returns-in-0
+returns-in-0 c =
     let a = c.args in
     let p = c.requires in
-    set-stepped p.0 a.key p.1 a.d p.2 c.if-d-eq0.true (search rules) _ _ c.raw_insert.ensures.number c.raw_insert.ensures.bytes
+    set-stepped p.0 a.key p.1 a.d p.2 c.in-0.is (search rules) _ _ c.raw_insert.ensures.number c.raw_insert.ensures.bytes
 
-pub returns-then-d-eq2 : goal.returns-then-d-eq2
-returns-then-d-eq2 c =
+pub returns-in-2 : goal.returns-in-2
+returns-in-2 c =
     let a = c.args in
     let p = c.requires in
-    set-refused p.0 a.key p.1 a.d p.2 c.if-d-eq2.true
+    set-refused p.0 a.key p.1 a.d p.2 c.in-2.is
 
-pub returns : goal.returns
-returns c =
+pub returns-in_default : goal.returns-in_default
+returns-in_default c =
     let a = c.args in
     let p = c.requires in
-    set-none p.0 a.key p.1 a.d p.2 c.if-d-eq0.false c.if-d-eq2.false
+    set-none p.0 a.key p.1 a.d p.2 (λ e. absurd (omega (arith, e))) (λ e. absurd (omega (arith, e)))

@@ -2,7 +2,6 @@
 use Prim.Native.Nat.{◌*◌}
 use native.Mathlib.Omega.{arith}
 use Rattle.bits.proofs.laws.Laws.{field_lt}
-use borrow.Author.Rules.{rules}
 use Rattle.bits.proofs.four.Goals as goal
 
 pub overflow_cast-result : goal.overflow_cast-result

@@ -28,5 +28,5 @@ returns c =
     c.put_word.ensures
     ∙ rw c.mixed-w.ensures
     (put_whole a.s.now a.at a.width n (8 * n - a.at % 8 - a.width) a.v
-    (λ i. omega (arith, c.slice_known-1.given i)) (omega arith) (omega (arith, c.requires.0)) c.requires.1
+    (search rules) (omega arith) (omega (arith, c.requires.0)) c.requires.1
     c.word.result c.word.ensures)

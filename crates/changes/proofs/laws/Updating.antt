@@ -2,7 +2,8 @@
 use Prim.Native.Nat.{ℕ, ◌+◌, ◌^◌, ◌≤◌, ◌<◌}
 use native.Mathlib.Omega.{arith}
 use mathlib.Core.Bool.{Bool, true, false, not}
-use mathlib.Core.Option.{Option, none, some}
+use Rattle.std.specs.Prelude.{Option as Found, Some, None}
+use Rattle.std.specs.Option.{is_some as is_some_of}
 use mathlib.Core.Path.{◌≡◌, refl, ap, ap₂, sym, ◌∙◌}
 use mathlib.Core.List.{List, [], ◌∷◌}
 use lib.Dec.{leb}
@@ -15,7 +16,8 @@ use Rattle.model.specs.Walk.{key_limit, lookup}
 use Rattle.model.specs.Layout.{read_header, decode}
 use Rattle.model.specs.Judged.{judged, is_sound}
 use Rattle.model.specs.Climb.{update}
-use Rattle.model.specs.Calls.{is_some, rule, first_of, raw_insert, insert, delete, looked_at, looked_found}
+use Rattle.model.specs.Calls.{is_some, rule, first_of, raw_insert, insert, delete}
+use Rattle.model.specs.Refusals.{found_in}
 use Rattle.model.specs.Needs.{deleting}
 use Rattle.model.specs.Lent.{leaving, left, insert_lent, delete_lent}
 use Rattle.model.proofs.sound.ByRule.{old-last}
@@ -40,9 +42,9 @@ updating-is true k s = refl
 updating-is false k s = refl
 
 -- a walk's answer tells it
-pub found-is : (o : Option ℕ) → looked_found (looked_at o) ≡ is_some o
-found-is none = refl
-found-is (some x) = refl
+pub found-is : (o : Found ℕ) → is_some_of o ≡ is_some (found_in o)
+found-is None = refl
+found-is (Some x) = refl
 
 module _ (least : ℕ) (b : List ℕ) where
   insert-guard : (k x : ℕ) → Goes least b (insert_lent least b k x) (updating true k) (left least b (raw_insert least (decode least b) k x))

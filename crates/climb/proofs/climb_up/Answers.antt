@@ -1,16 +1,12 @@
-use Prim.Native.Nat.{◌-◌, ◌≤◌}
+use Prim.Native.Nat.{◌-◌}
 use native.Mathlib.Omega.{arith}
-use mathlib.Core.Path.{◌≡◌, refl, sym, ◌∙◌}
+use mathlib.Core.Path.{refl, sym, ◌∙◌}
 use Rattle.edit.specs.Change.{change_of}
-use Rattle.gather.specs.Kept.{Fits}
-use Rattle.parts.specs.Becomes.{Becomes}
 use Rattle.parts.proofs.laws.Becomes.{stays, kept-after, then}
 use Rattle.parts.specs.Kept.{pages_of}
-use Rattle.plan.specs.Plan.{ups_of}
 use Rattle.climb.specs.Work.{worked_of}
-use Rattle.climb.specs.Climb.{climb_up}
-use Rattle.climb.proofs.laws.Climb.{climb-step, climb-end, placed-after, bytes_after}
-use borrow.Author.Rules.{rules}
+use Rattle.climb.proofs.laws.Climb.{climb-step, climb-end, placed-after}
+use Rattle.std.proofs.lemmas.Result.{err_from_is_err_and}
 use Rattle.climb.proofs.climb_up.Goals as goal
 
 pub loop-k-init : goal.loop-k-init
@@ -29,45 +25,37 @@ work-requires c = (
   c.requires.4 ∙ sym c.loop-k.invariant.2.long,
 )
 
-pub shape_of-s-in-Settled : goal.shape_of-s-in-Settled
-shape_of-s-in-Settled c = bytes_after c.requires.0 (then c.requires.0 c.loop-k.invariant.2 c.work.ensures.1)
-
-pub returns-in-Settled : goal.returns-in-Settled
+pub returns-in_err-e : goal.returns-in_err-e
 unfolding worked_of
-returns-in-Settled c = (
-  climb-step c.args.l.least c.args.w c.args.way.list (change_of c.loop-k.d)
-      (pages_of c.args.l c.loop-k.s) c.loop-k.k (omega arith) _
-      (rw c.in-Settled.is at c.work.ensures.0) ∙ c.loop-k.invariant.3,
-  then c.requires.0 c.loop-k.invariant.2 c.work.ensures.1,
-  tt,
-)
+returns-in_err-e c =
+    let p = err_from_is_err_and c.from_residual.result c.from_residual.ensures.1 in
+    rw p.1 (
+      climb-step c.args.l.least c.args.w c.args.way.list (change_of c.loop-k.d)
+          (pages_of c.args.l c.loop-k.s) c.loop-k.k (omega arith) _ c.in_err-e.ensures.0 ∙ c.loop-k.invariant.3,
+      then c.requires.0 c.loop-k.invariant.2 c.in_err-e.ensures.1,
+      tt,
+    )
 
-pub shape_of-s-in-Lacking : goal.shape_of-s-in-Lacking
-shape_of-s-in-Lacking c = bytes_after c.requires.0 (then c.requires.0 c.loop-k.invariant.2 c.work.ensures.1)
-
-pub returns-in-Lacking : goal.returns-in-Lacking
+pub returns-in-None : goal.returns-in-None
 unfolding worked_of
-returns-in-Lacking c = (
-  climb-step c.args.l.least c.args.w c.args.way.list (change_of c.loop-k.d)
-      (pages_of c.args.l c.loop-k.s) c.loop-k.k (omega arith) _
-      (rw c.in-Lacking.is at c.work.ensures.0) ∙ c.loop-k.invariant.3,
-  then c.requires.0 c.loop-k.invariant.2 c.work.ensures.1,
-  tt,
-)
+returns-in-None c =
+    let z = rw c.in-None.is at c.in_ok-e.ensures in (
+      climb-step c.args.l.least c.args.w c.args.way.list (change_of c.loop-k.d)
+          (pages_of c.args.l c.loop-k.s) c.loop-k.k (omega arith) _ z.0 ∙ c.loop-k.invariant.3,
+      then c.requires.0 c.loop-k.invariant.2 z.1,
+      tt,
+    )
 
 pub loop-k-preserved : goal.loop-k-preserved
 unfolding worked_of
-loop-k-preserved c = (
-  omega (arith, c.loop-k.invariant.0),
-  rw c.in-Upward.is at c.work.ensures.2,
-  then c.requires.0 c.loop-k.invariant.2 c.work.ensures.1,
-  climb-step c.args.l.least c.args.w c.args.way.list (change_of c.loop-k.d)
-      (pages_of c.args.l c.loop-k.s) c.loop-k.k (omega arith) _
-      (rw c.in-Upward.is at c.work.ensures.0) ∙ c.loop-k.invariant.3,
-)
-
-pub shape_of-s : goal.shape_of-s
-shape_of-s c = bytes_after c.requires.0 c.loop-k.invariant.2
+loop-k-preserved c =
+    let z = rw c.in-Some.is at c.in_ok-e.ensures in (
+      omega (arith, c.loop-k.invariant.0),
+      z.2,
+      then c.requires.0 c.loop-k.invariant.2 z.1,
+      climb-step c.args.l.least c.args.w c.args.way.list (change_of c.loop-k.d)
+          (pages_of c.args.l c.loop-k.s) c.loop-k.k (omega arith) _ z.0 ∙ c.loop-k.invariant.3,
+    )
 
 pub returns : goal.returns
 unfolding worked_of

@@ -55,7 +55,7 @@ module _ {l : Limits} {b b' : List ℕ} {ps : List Page} (k : ExactBytes l b) (d
   router-after r = record { inside = inside-after k d r.inside; fits = r.fits }
 
   pub placed-after : {a : Around} → Placed l b a → Placed l b' a
-  placed-after p = record { own = router-after p.own; left = λ e. router-after (p.left e); right = λ e. router-after (p.right e) }
+  placed-after p = record { own = router-after p.own; left = λ x e. router-after (p.left x e); right = λ x e. router-after (p.right x e) }
 
   pub bytes_after : length b' ≡ length b
   bytes_after = long (kept-after k d) ∙ ap (λ (n : ℕ). n * (64 * l.least)) (ap length (pages-are k d) ∙ d.long) ∙ sym (long k)

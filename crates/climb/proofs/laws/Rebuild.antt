@@ -8,6 +8,7 @@ use lib.ListN.{length, set, take, drop, length-drop}
 use lib.Seq.{take_all}
 use native.Mathlib.Omega.{arith}
 use borrow.Author.Tests.{le-leb, lt-leb}
+use Rattle.std.specs.Prelude.{None, Some}
 use Rattle.model.specs.declared.Limits.{Limits}
 use Rattle.model.specs.declared.Pair.{Pair}
 use Rattle.model.specs.Basic.{pick}
@@ -34,17 +35,17 @@ itself k d = rw (pages-are k d) d
 
 -- ---- one page gone after the other
 
-module _ {l : Limits} {b b' : List ℕ} (k : ExactBytes l b) (w : ℕ) (rs : Routers) (n : ℕ) (en : n ≡ rs.first.value)
-    (d : Becomes l b b' (set (pages_of l b) n (gone w (page (pages_of l b) n)))) where
-  pub one-gone : rs.two ≡ false → Becomes l b b' (rules.retire w (pages_of l b) (routers_of rs))
+module _ {l : Limits} {b b' : List ℕ} (k : ExactBytes l b) (w : ℕ) (rs : Routers)
+    (d : Becomes l b b' (set (pages_of l b) rs.first.value (gone w (page (pages_of l b) rs.first.value)))) where
+  pub one-gone : rs.second ≡ None → Becomes l b b' (rules.retire w (pages_of l b) (routers_of rs))
   unfolding routers_of
-  one-gone e = rw (e, ← en) d
+  one-gone e = rw e d
 
-  pub both-gone : rs.two ≡ true → {b'' : List ℕ} (m : ℕ) → m ≡ rs.second.value
-      → Becomes l b' b'' (set (pages_of l b') m (gone w (page (pages_of l b') m)))
+  pub both-gone : (x : Pair) → rs.second ≡ Some x → {b'' : List ℕ}
+      → Becomes l b' b'' (set (pages_of l b') x.value (gone w (page (pages_of l b') x.value)))
       → Becomes l b b'' (rules.retire w (pages_of l b) (routers_of rs))
   unfolding routers_of
-  both-gone e m em f = rw (e, ← en, ← em) (rw (pages-are k d) at (then k d f))
+  both-gone x e f = rw e (rw (pages-are k d) at (then k d f))
 
 -- ---- the pairs from a place on, and up to one
 

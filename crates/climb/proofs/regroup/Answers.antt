@@ -6,15 +6,11 @@ use Rattle.parts.proofs.laws.Becomes.{stays}
 use Rattle.parts.specs.Kept.{pages_of}
 use Rattle.climb.specs.Work.{worked_of}
 use Rattle.climb.proofs.laws.Work.{regroup-lacks, regroup-rises, usable-small}
-use borrow.Author.Rules.{rules}
 use Rattle.climb.proofs.regroup.Goals as goal
 use Rattle.climb.proofs.regroup.Goals.{After-fills}
 
 pub usable-u-requires : goal.usable-u-requires
 usable-u-requires c = (c.requires.0, c.requires.1.routed, c.requires.4)
-
-pub fills-requires : goal.fills-requires
-fills-requires c = c.requires.0.edition
 
 need-is : (c : After-fills) →
     c.fills.result ≡ fills c.args.l.least (pairs_in c.args.g.all)
@@ -35,7 +31,7 @@ pub parent_change-c-requires : goal.parent_change-c-requires
 parent_change-c-requires c =
     let (x, y) = usable-small c.args.l c.args.s.now c.requires.0 c.args.w
     c.args.g.routers c.requires.1.routed c.usable-u.result c.usable-u.ensures in
-    (c.requires.0.edition, c.requires.1.good, c.requires.1.routed.first.fits, x, y)
+    (c.requires.1.good, c.requires.1.routed.first.fits, x, y)
 
 pub rebuild-requires : goal.rebuild-requires
 rebuild-requires c = (

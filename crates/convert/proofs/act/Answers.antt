@@ -1,7 +1,6 @@
 -- `act` meets its contract. Assumes nothing.
 use Rattle.convert.proofs.laws.Pass.{asks-as, went-as}
 use Rattle.model.specs.Layout.{decode}
-use borrow.Author.Rules.{rules}
 use Rattle.convert.proofs.act.Goals as goal
 
 pub set_one-requires : goal.set_one-requires
@@ -19,7 +18,7 @@ end_one-requires c =
     let p = c.requires in
     (p.0, asks-as _ _ c.if-insert.false p.1)
 
-pub returns : goal.returns
-returns c =
+pub returns-else-insert : goal.returns-else-insert
+returns-else-insert c =
     let a = c.args in went-as (decode a.l.least a.t.now) a.d a.insert _ c.if-insert.false
     c.end_one.ensures

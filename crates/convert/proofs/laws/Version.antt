@@ -5,7 +5,6 @@ use mathlib.Core.Path.{◌≡◌, refl, ap, sym, subst, ◌∙◌}
 use mathlib.Core.List.{List}
 use lib.ListN.{length}
 use Rattle.model.specs.declared.Limits.{Limits}
-use Rattle.model.specs.Limits.{Edition}
 use Rattle.model.specs.Store.{Store, next}
 use Rattle.model.specs.Walk.{settings}
 use Rattle.model.specs.Layout.{decode, encode}
@@ -164,5 +163,5 @@ module _ {k : Limits} {a : List ℕ} {l : Limits} {b : List ℕ} {v : ℕ} (p : 
   unfolding replay
   on-end h = ap (λ (m : ℕ). replay l.least s v m t) (let e : s.current - v ≡ 0 = omega (arith, h) in e)
 
-  pub header-right : Edition k × (64 * k.least ≤ length a) × (length a ≤ 2 ^ 40)
-  header-right = (p.from, omega (arith, front p.from a p.source), few p.from a p.source)
+  pub header-right : (64 * k.least ≤ length a) × (length a ≤ 2 ^ 40)
+  header-right = (omega (arith, front p.from a p.source), few p.from a p.source)

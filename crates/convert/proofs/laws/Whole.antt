@@ -8,7 +8,7 @@ use lib.Dec.{leb}
 use lib.ListN.{length}
 use Rattle.model.specs.declared.Limits.{Limits}
 use Rattle.model.specs.Basic.{pick}
-use Rattle.model.specs.Limits.{limits, Edition}
+use Rattle.model.specs.Limits.{Edition}
 use Rattle.model.specs.Field.{Bytes}
 use Rattle.model.specs.Store.{fresh}
 use Rattle.model.specs.Layout.{size_of, decode, encode}
@@ -20,7 +20,7 @@ use Rattle.model.specs.Convert.{replay, converted, convert_tests, convert_lent}
 use Rattle.model.specs.ByRule.{Sound}
 use Rattle.model.specs.Remade.{Upto}
 use Rattle.model.proofs.turning.Converted.{Replays, fresh-upto, replay-so}
-use Rattle.page.proofs.laws.Editions.{edition-of}
+use Rattle.model.proofs.Edition.{edition}
 use Rattle.store.proofs.laws.Sure.{sure, same_bytes}
 use Rattle.store.specs.Tested.{Whole}
 use Rattle.store.proofs.laws.Tested.{whole_length}
@@ -33,25 +33,12 @@ pub fresh-made : (x b : List ℕ) → length x ≡ length b → length_ok 8 b �
 unfolding fresh_lent length_ok
 fresh-made x b e h = rw (e, h)
 
-module _ (k l : Limits) (ek : k ≡ limits 4) (el : l ≡ limits 8) where
-  abbrev pub first : Edition k
-  first = edition-of 4 ek (omega arith) (omega arith)
-
-  abbrev pub second : Edition l
-  second = edition-of 8 el (omega arith) (omega arith)
-
-module _ (a b : List ℕ) (h : is_sound 4 a ≡ true) (w : length_ok 8 b ≡ true) (k l : Limits) (ek : k ≡ limits 4) (el : l ≡ limits 8) where
-  k4 : k.least ≡ 4
-  k4 = ap (λ (x : Limits). x.least) ek
-
-  l8 : l.least ≡ 8
-  l8 = ap (λ (x : Limits). x.least) el
-
+module _ (a b : List ℕ) (h : is_sound 4 a ≡ true) (w : length_ok 8 b ≡ true) (k l : Limits) (k4 : k.least ≡ 4) (l8 : l.least ≡ 8) where
   one : Edition k
-  one = edition-of 4 ek (omega arith) (omega arith)
+  one = edition k
 
   two : Edition l
-  two = edition-of 8 el (omega arith) (omega arith)
+  two = edition l
 
   sound : is_sound k.least a ≡ true
   sound = ap (λ (n : ℕ). is_sound n a) k4 ∙ h

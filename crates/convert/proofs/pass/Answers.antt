@@ -1,19 +1,16 @@
 -- `pass` meets its contract. Assumes nothing.
-use lib.ListN.{length}
 use Rattle.model.specs.declared.Delta.{Delta}
 use Rattle.model.specs.Layout.{decode}
-use Rattle.model.specs.Walk.{key_limit}
 use Rattle.differ.specs.Merge.{Onward}
-use Rattle.differ.specs.Listing.{between, left_of}
 use Rattle.back.specs.Pass.{passed}
-use Rattle.convert.specs.Ready.{UpdateOpen, shown}
+use Rattle.convert.specs.Ready.{shown}
 use Rattle.convert.specs.Due.{Due}
 use Rattle.convert.proofs.laws.Pass.{pass-start, due-start, pass_on, asks, pass-goes, pass-due, pass-stops, pass-end}
-use mathlib.Core.Path.{◌≡◌, refl, ap, subst, ◌∙◌}
+use mathlib.Core.Path.{refl, ap, subst, ◌∙◌}
 use mathlib.Core.List.{List}
 use native.Mathlib.Omega.{arith}
-use Prim.Native.Nat.{◌+◌, ◌-◌, ◌≤◌}
-use borrow.Author.Rules.{rules}
+use Rattle.std.proofs.lemmas.Result.{err_from_is_err_and}
+use Rattle.update.proofs.laws.Foreseen.{a_number}
 use Rattle.convert.proofs.pass.Goals as goal
 use Rattle.convert.proofs.pass.Goals.{After-next-d}
 
@@ -38,8 +35,8 @@ next-d-requires c =
     let p = c.requires in
     (p.0, p.1)
 
-pub act-n-requires : goal.act-n-requires
-act-n-requires c =
+pub act-requires : goal.act-requires
+act-requires c =
     let i = c.loop-key in
     let o = c.onward-g in
     let d = c.next-d in
@@ -49,8 +46,9 @@ act-n-requires c =
     let q = subst (Due a.insert (shown a.l i.t)) e i.invariant.2 in
     (i.invariant.1, asks p.0 p.1 a.l i.t a.insert i.invariant.1 o.result.key o.ensures.0.high d.result d.ensures q)
 
-pub returns-then-n-ne0 : goal.returns-then-n-ne0
-returns-then-n-ne0 c =
+pub returns-in_err-act : goal.returns-in_err-act
+returns-in_err-act c =
+    let r = err_from_is_err_and c.from_residual.result c.from_residual.ensures.1 in
     let i = c.loop-key in
     let o = c.onward-g in
     let d = c.next-d in
@@ -58,14 +56,15 @@ returns-then-n-ne0 c =
     let p = c.requires in
     let e = o.ensures.1 in
     let q = subst (Due a.insert (shown a.l i.t)) e i.invariant.2 in
-    let t = c.act-n.ensures in
-    record {
+    let t = c.in_err-act.ensures in
+    rw (r.1, r.2)
+    (record {
       ready = t.ready;
-      goes = λ z. absurd (c.if-n-ne0.true z);
+      goes = λ z. absurd (a_number c.in_err-act.field-0.0 z);
       stops = λ z. i.invariant.3 ∙ ap (λ (ds : List Delta). passed a.insert a.l.least ds (decode a.l.least i.t)) e
           ∙ pass-stops p.0 p.1 a.l i.t a.insert i.invariant.1 o.result.key o.ensures.0.high d.result
           d.ensures q _ _ t z;
-    }
+    })
 
 -- the key that is found next
 next-on : (c : After-next-d) → Onward c.onward-g.result.key c.next-d.result.key
@@ -93,16 +92,15 @@ loop-key-preserved c =
     let p = c.requires in
     let e = o.ensures.1 in
     let q = subst (Due a.insert (shown a.l i.t)) e i.invariant.2 in
-    let t = c.act-n.ensures in
-    let z = c.if-n-ne0.false in (
+    let t = c.in_ok-act.ensures in (
       omega (arith, (next-on (goal.at.loop-key-preserved c).After-next-d).high),
       t.ready,
       pass-due p.0 p.1 a.l i.t a.insert i.invariant.1 o.result.key o.ensures.0.high d.result
-          d.ensures q _ _ t z,
+          d.ensures q _ _ t refl,
       i.invariant.3 ∙ ap (λ (ds : List Delta). passed a.insert a.l.least ds (decode a.l.least i.t)) e
           ∙ pass-goes p.0 p.1 a.l i.t a.insert i.invariant.1 o.result.key o.ensures.0.high d.result
-          d.ensures q _ _ t z,
-      c.act-n.auto.t ∙ i.invariant.4,
+          d.ensures q _ _ t refl,
+      c.act.auto.t ∙ i.invariant.4,
     )
 
 pub returns : goal.returns

@@ -1,19 +1,13 @@
 -- `pass` meets its contract. Assumes nothing.
 use lib.ListN.{length}
-use Rattle.model.specs.declared.Delta.{Delta}
 use Rattle.model.specs.Layout.{decode}
 use Rattle.model.specs.Walk.{key_limit}
-use Rattle.differ.specs.Merge.{Onward}
 use Rattle.differ.specs.Listing.{between, left_of}
 use Rattle.back.specs.Pass.{passed}
 use Rattle.convert.specs.Ready.{UpdateOpen, shown}
 use Rattle.convert.specs.Due.{Due}
-use Rattle.convert.proofs.laws.Pass.{pass-start, due-start, pass_on, asks, pass-goes, pass-due, pass-stops, pass-end}
-use mathlib.Core.Path.{◌≡◌, refl, ap, subst, ◌∙◌}
-use mathlib.Core.List.{List}
-use native.Mathlib.Omega.{arith}
+use mathlib.Core.Path.{◌≡◌}
 use Prim.Native.Nat.{◌+◌, ◌-◌, ◌≤◌}
-use borrow.Author.Rules.{rules}
 use Rattle.convert.proofs.pass.Given as goal
 
 abbrev pub invariant-loop-key : goal.invariant-loop-key

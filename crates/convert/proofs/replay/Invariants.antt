@@ -1,15 +1,10 @@
 -- `replay` meets its contract. Assumes nothing.
 use lib.ListN.{length}
-use Rattle.model.specs.declared.Header.{Header}
 use Rattle.model.specs.Layout.{decode}
 use Rattle.model.specs.Convert.{replay}
-use Rattle.store.proofs.laws.Read.{current-of}
 use Rattle.convert.specs.Version.{Replaying}
-use Rattle.convert.proofs.laws.Version.{header-right, version_low, on-start, on-stops, on-goes, on-more, on-end}
-use mathlib.Core.Path.{◌≡◌, refl, ap, sym, ◌∙◌}
-use native.Mathlib.Omega.{arith}
-use Prim.Native.Nat.{◌-◌, ◌≤◌, ◌<◌}
-use borrow.Author.Rules.{rules}
+use mathlib.Core.Path.{◌≡◌}
+use Prim.Native.Nat.{◌-◌, ◌≤◌}
 use Rattle.convert.proofs.replay.Given as goal
 
 abbrev pub invariant-loop-v : goal.invariant-loop-v

@@ -1,15 +1,10 @@
 -- `first_from` meets its contract. Assumes nothing.
 use Rattle.cursor.proofs.laws.Leaf.{first_found, first-further, first-end}
-use Rattle.cursor.specs.First.{at_or_above, leads}
-use Rattle.model.specs.Walk.{settings, key_limit}
+use Rattle.model.specs.Walk.{settings}
 use Rattle.model.specs.Layout.{decode}
-use mathlib.Core.Path.{◌≡◌, refl, sym, ◌∙◌}
+use mathlib.Core.Path.{sym, ◌∙◌}
 use native.Mathlib.Omega.{arith}
-use Prim.Native.Nat.{◌-◌}
 use Rattle.cursor.proofs.first_from.Goals as goal
-
-pub loop-key-init : goal.loop-key-init
-loop-key-init c = refl
 
 pub leaf_for-u-requires : goal.leaf_for-u-requires
 leaf_for-u-requires c = (c.requires, c.loop-key-test.true)

@@ -1,10 +1,8 @@
 -- `first_from` meets its contract. Assumes nothing.
-use Rattle.cursor.proofs.laws.Leaf.{first_found, first-further, first-end}
 use Rattle.cursor.specs.First.{at_or_above, leads}
 use Rattle.model.specs.Walk.{settings, key_limit}
 use Rattle.model.specs.Layout.{decode}
-use mathlib.Core.Path.{◌≡◌, refl, sym, ◌∙◌}
-use native.Mathlib.Omega.{arith}
+use mathlib.Core.Path.{◌≡◌}
 use Prim.Native.Nat.{◌-◌}
 use Rattle.cursor.proofs.first_from.Given as goal
 

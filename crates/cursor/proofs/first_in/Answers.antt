@@ -8,13 +8,11 @@ use Rattle.model.specs.Walk.{settings}
 use Rattle.model.specs.Layout.{decode}
 use mathlib.Core.Path.{ap, ◌∙◌}
 use native.Mathlib.Omega.{arith}
-use borrow.Author.Rules.{rules}
 use Rattle.cursor.proofs.first_in.Goals as goal
 
 pub part-p-requires : goal.part-p-requires
 part-p-requires c =
     let r = c.requires.0 in (
-      r.edition,
       (covers-inside r _ _ _ (below-covers c.requires.0 _ _ _ c.requires.1)).part,
       few r.edition c.args.s.now r.sound,
     )
@@ -43,8 +41,8 @@ returns-then-i-h c =
     ∙ first-here a.l.least a.v (decode a.l.least a.s.now).pages (settings (decode a.l.least a.s.now) a.v)
     a.u.page a.key a.u.high c.requires.1 _ _ e _ c.next_place-i.ensures c.if-i-h.true
 
-pub returns : goal.returns
-returns c =
+pub returns-else-i-h : goal.returns-else-i-h
+returns-else-i-h c =
     let a = c.args in
     let e = here-pairs c.requires.0 0 a.u.page a.key (below-covers c.requires.0 _ _ _ c.requires.1) _ _
     c.part-p.ensures.0 c.head_of-h.ensures in

@@ -1,5 +1,5 @@
 -- Laws about cursor/specs/Leaf. Assumes nothing.
-use Prim.Native.Nat.{ℕ, suc, ◌-◌, ◌≤◌, ◌<◌}
+use Prim.Native.Nat.{ℕ, suc, ◌+◌, ◌≤◌, ◌<◌}
 use native.Mathlib.Omega.{arith}
 use mathlib.Core.Path.{◌≡◌, ap, sym, ◌∙◌, subst}
 use mathlib.Core.List.{List, ◌∷◌}
@@ -39,14 +39,14 @@ below_root {l} {b} {v} r k h =
 
 -- ---- a page as it was read
 
-module _ (least v : ℕ) (ps : List Page) (whole : List Pair) (up n k high : ℕ) (g : Reaches least v ps whole up n k high)
+module _ (least v : ℕ) (ps : List Page) (whole : List Pair) (up n k high : ℕ) (g : Reaches least v ps whole (up + 1) n k high)
     (p : List ℕ) (c : ℕ) (e : pairs_at v (page ps n) ≡ live v (from p 0 c)) where
   -- one page further down: the search for the router ended at its next place, and the next one alive stands at i
-  module _ (z : 0 < up) (o : Own) (w : Owns p v k c o) (i : ℕ) (x : Next p v 0 16777215 o.next c i) where
-    one_up : up ≡ suc (up - 1)
+  module _ (o : Own) (w : Owns p v k c o) (i : ℕ) (x : Next p v 0 16777215 o.next c i) where
+    one_up : up + 1 ≡ suc up
     one_up = omega arith
 
-    above : Reaches least v ps whole (suc (up - 1)) n k high
+    above : Reaches least v ps whole (suc up) n k high
     above = subst (λ (u : ℕ). Reaches least v ps whole u n k high) one_up g
 
     followed-is : followed k 16777215 (pairs_at v (page ps n)) ≡ pair k o.page ∷ between 0 16777215 (live v (from p i c))
@@ -54,14 +54,14 @@ module _ (least v : ℕ) (ps : List Page) (whole : List Pair) (up n k high : ℕ
         ap (followed k 16777215) e ∙ w.later 16777215
         ∙ ap (λ (xs : List Pair). pair k o.page ∷ xs) (upto-between 16777215 (live v (from p o.next c)) ∙ x.same)
 
-    pub step-next : i < c → Reaches least v ps whole (up - 1) o.page k (entry p i).key
+    pub step-next : i < c → Reaches least v ps whole up o.page k (entry p i).key
     step-next h =
-        reaches-next least v ps whole (up - 1) n k high above o.page (between 0 16777215 (live v (from p i c))) followed-is
+        reaches-next least v ps whole up n k high above o.page (between 0 16777215 (live v (from p i c))) followed-is
         (pair_of (entry p i)) _ (x.here h)
 
-    pub step-last : i ≡ c → Reaches least v ps whole (up - 1) o.page k high
+    pub step-last : i ≡ c → Reaches least v ps whole up o.page k high
     step-last h =
-        reaches-last least v ps whole (up - 1) n k high above o.page (between 0 16777215 (live v (from p i c))) followed-is
+        reaches-last least v ps whole up n k high above o.page (between 0 16777215 (live v (from p i c))) followed-is
         (ap (λ (j : ℕ). between 0 16777215 (live v (from p j c))) h ∙ next-none p v 0 16777215 c)
 
 module _ (least v : ℕ) (ps : List Page) (whole : List Pair) (n k high : ℕ) (g : Reaches least v ps whole 0 n k high) where

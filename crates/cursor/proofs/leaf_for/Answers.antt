@@ -6,24 +6,17 @@ use Rattle.store.proofs.laws.Sure.{few}
 use mathlib.Core.Path.{◌≡◌, subst}
 use native.Mathlib.Omega.{arith}
 use Prim.Native.Nat.{ℕ}
-use borrow.Author.Rules.{rules}
 use Rattle.cursor.proofs.leaf_for.Goals as goal
-
-pub root_at-n-requires : goal.root_at-n-requires
-root_at-n-requires c = (c.requires.0.edition, c.requires.0.sound)
 
 pub height_of-up-requires : goal.height_of-up-requires
 height_of-up-requires c =
     let r = c.requires.0 in
     let k = root-covers r c.args.key c.requires.1 in
     rw c.root_at-n.ensures
-    (r.edition, covers-inside r _ _ _ k, few r.edition c.args.s.now r.sound, omega (arith, k.level))
+    (covers-inside r _ _ _ k, few r.edition c.args.s.now r.sound, omega (arith, k.level))
 
 pub loop-up-init : goal.loop-up-init
 loop-up-init c = rw (c.height_of-up.ensures, c.root_at-n.ensures) (below_root c.requires.0 c.args.key c.requires.1)
-
-pub loop-up-preserved : goal.loop-up-preserved
-loop-up-preserved c = c.step-u.ensures
 
 pub returns : goal.returns
 returns c =

@@ -3,7 +3,6 @@ use Rattle.differ.proofs.laws.Listing.{few-between}
 use Rattle.model.proofs.reading.Telling.{none-room, told-short, second-space, told-all}
 use Rattle.model.specs.Telling.{deltas}
 use native.Mathlib.Omega.{arith}
-use borrow.Author.Rules.{rules}
 use Rattle.differ.proofs.difference.Goals as goal
 
 pub tell-found-requires : goal.tell-found-requires

@@ -8,6 +8,7 @@ use mathlib.Core.List.{List, ◌++◌}
 use lib.Dec.{ltb, eqb}
 use borrow.Author.Tests.{ltb-true, ltb-false}
 use Rattle.model.specs.Basic.{pick}
+use Prim.Native.Nat.{min}
 use Rattle.model.specs.declared.Pair.{Pair}
 use Rattle.model.specs.declared.Delta.{Delta}
 use Rattle.model.specs.declared.Limits.{Limits}
@@ -139,7 +140,7 @@ module _ {l : Limits} {b : List ℕ} {u v : ℕ} (r : Walkable l b u) (q : Walka
 
   module _ {w : Bool} {ns₀ ns : List ℕ} {found key : ℕ} (h : ToldBelow l b u v w ns₀ ns found key) (x y : Under) (g : Below l b u 0 key x)
       (f : Below l b v 0 key y)
-      (high : ℕ) (e : high ≡ pick (ltb x.high y.high) x.high y.high) where
+      (high : ℕ) (e : high ≡ min x.high y.high) where
     pub high-low : key < high
     high-low = past.high-low r q key x y g f high e
 

@@ -14,7 +14,6 @@ use Rattle.model.specs.Store.{page}
 use Rattle.model.specs.Walk.{between, settings, key_limit}
 use Rattle.model.specs.Layout.{page_of, decode}
 use Rattle.model.specs.Differ.{differ}
-use Rattle.model.specs.Inner.{rising}
 use Rattle.model.proofs.lists.Lists.{both_true}
 use Rattle.model.proofs.tree.Tree.{widen}
 use Rattle.model.proofs.tree.Edit.{all-those, rising-those}

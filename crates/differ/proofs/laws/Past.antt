@@ -2,12 +2,10 @@
 -- Assumes nothing.
 use Prim.Native.Nat.{ℕ, ◌+◌, ◌-◌, ◌≤◌, ◌<◌}
 use native.Mathlib.Omega.{arith}
-use mathlib.Core.Bool.{Bool, true, false}
-use mathlib.Core.Path.{◌≡◌, refl, ap, ◌∙◌}
+use mathlib.Core.Bool.{Bool}
+use mathlib.Core.Path.{◌≡◌, ap, ◌∙◌}
 use mathlib.Core.List.{List, [], ◌++◌}
-use lib.Dec.{ltb}
-use borrow.Author.Tests.{ltb-true, ltb-false}
-use Rattle.model.specs.Basic.{pick}
+use Prim.Native.Nat.{min}
 use Rattle.model.specs.declared.Delta.{Delta}
 use Rattle.model.specs.declared.Limits.{Limits}
 use Rattle.model.specs.Walk.{key_limit}
@@ -21,14 +19,10 @@ use Rattle.differ.proofs.laws.Leaves.{stretch-on}
 
 module _ {l : Limits} {b : List ℕ} {u v : ℕ} (r : Walkable l b u) (q : Walkable l b v) (key : ℕ) (x y : Under) (g : Below l b u 0 key x)
     (f : Below l b v 0 key y)
-    (high : ℕ) (e : high ≡ pick (ltb x.high y.high) x.high y.high) where
+    (high : ℕ) (e : high ≡ min x.high y.high) where
   -- the lower of two ends is behind the key
   lower : (high ≤ x.high) × (high ≤ y.high) × (key < high)
-  lower = rw e (at (ltb x.high y.high) refl)
-    where
-      at : (t : Bool) → ltb x.high y.high ≡ t → let m = pick t x.high y.high in (m ≤ x.high) × (m ≤ y.high) × (key < m)
-      at true z = (omega arith, omega (arith, ltb-true x.high y.high z), g.below)
-      at false z = (ltb-false x.high y.high z, omega arith, f.below)
+  lower = (omega (arith, e), omega (arith, e), omega (arith, e, g.below, f.below))
 
   pub high-low : key < high
   high-low = lower.2

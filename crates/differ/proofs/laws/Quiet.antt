@@ -1,5 +1,6 @@
 -- Laws about differ/specs/Quiet. Assumes nothing.
-use Prim.Native.Nat.{ℕ, ◌+◌, ◌<◌}
+use Rattle.std.specs.List.{list_all, range_with_len}
+use Prim.Native.Nat.{ℕ, zero, suc, ◌+◌}
 use native.Mathlib.Omega.{arith}
 use mathlib.Core.Bool.{Bool, true, false, ◌&&◌, not}
 use mathlib.Core.Path.{◌≡◌, refl, ap, sym, ◌∙◌}
@@ -29,16 +30,11 @@ quiet-shows u v (e ∷ es) h =
     at false p true q h ih = absurd (let z : ◌≡◌ {A = ℕ} 0 1 = cc in omega arith)
     at false p false q h ih = live-off u e es p ∙ ih ∙ sym (live-off v e es q)
 
--- entry by entry
+-- place by place
 module _ (p : List ℕ) (n u v : ℕ) where
-  pub quiet-on : (i : ℕ) → i < n → moves u v (entry p i) ≡ false → quiet u v (from p i n) ≡ quiet u v (from p (i + 1) n)
+  pub quiet-places : (k i : ℕ) → i + k ≡ n → list_all (λ (j : ℕ). not (moves u v (entry p j))) (range_with_len i k) ≡ quiet u v (from p i n)
   unfolding quiet
-  quiet-on i l h = ap (quiet u v) (from_step p n i l) ∙ ap (λ (b : Bool). not b && quiet u v (from p (i + 1) n)) h
-
-  pub quiet-not : (i : ℕ) → i < n → moves u v (entry p i) ≡ true → false ≡ quiet u v (from p i n)
-  unfolding quiet
-  quiet-not i l h = sym (ap (quiet u v) (from_step p n i l) ∙ ap (λ (b : Bool). not b && quiet u v (from p (i + 1) n)) h)
-
-  pub quiet-end : true ≡ quiet u v (from p n n)
-  unfolding quiet
-  quiet-end = sym (ap (quiet u v) (from_end p n n (omega arith)))
+  quiet-places zero i e = sym (ap (quiet u v) (from_end p n i (omega arith)))
+  quiet-places (suc k) i e =
+      ap (λ (b : Bool). not (moves u v (entry p i)) && b) (quiet-places k (i + 1) (omega arith))
+      ∙ sym (ap (quiet u v) (from_step p n i (omega arith)))

@@ -1,7 +1,6 @@
 -- `next` meets its contract. Assumes nothing.
 use Rattle.differ.specs.Merge.{compared}
 use mathlib.Core.Path.{ap₂, ◌∙◌}
-use borrow.Author.Rules.{rules}
 use Rattle.differ.proofs.next.Goals as goal
 
 pub returns : goal.returns

@@ -1,13 +1,8 @@
 -- `past` meets its contract. Assumes nothing.
-use Rattle.differ.specs.Listing.{left_of}
 use Rattle.differ.proofs.laws.Past.{high-low, high-top, past-on}
-use Rattle.model.specs.Walk.{key_limit}
 use mathlib.Core.Bool.{false}
-use mathlib.Core.Path.{◌≡◌, refl, ◌∙◌}
-use borrow.Author.Tests.{not-false}
+use mathlib.Core.Path.{refl, ◌∙◌}
 use native.Mathlib.Omega.{arith}
-use Prim.Native.Nat.{◌-◌, ◌≤◌}
-use borrow.Author.Rules.{rules}
 use Rattle.differ.proofs.past.Goals as goal
 
 pub loop-key-init : goal.loop-key-init
@@ -24,8 +19,8 @@ overflow_sub-a c =
     omega (
       arith,
       high-low c.requires.0 c.requires.1 c.loop-key.key c.leaf_for-x.result
-          c.leaf_for-y.result c.leaf_for-x.ensures c.leaf_for-y.ensures c.lower-high.result
-          c.lower-high.ensures,
+          c.leaf_for-y.result c.leaf_for-x.ensures c.leaf_for-y.ensures c.min-high.result
+          c.min-high.ensures,
     )
 
 pub alike-requires : goal.alike-requires
@@ -39,27 +34,27 @@ loop-key-smaller c =
     omega (
       arith,
       high-low c.requires.0 c.requires.1 c.loop-key.key c.leaf_for-x.result
-          c.leaf_for-y.result c.leaf_for-x.ensures c.leaf_for-y.ensures c.lower-high.result
-          c.lower-high.ensures,
+          c.leaf_for-y.result c.leaf_for-x.ensures c.leaf_for-y.ensures c.min-high.result
+          c.min-high.ensures,
       high-top c.requires.0 c.requires.1 c.loop-key.key c.leaf_for-x.result c.leaf_for-y.result
-          c.leaf_for-x.ensures c.leaf_for-y.ensures c.lower-high.result c.lower-high.ensures,
+          c.leaf_for-x.ensures c.leaf_for-y.ensures c.min-high.result c.min-high.ensures,
     )
 
 pub loop-key-preserved : goal.loop-key-preserved
 loop-key-preserved c =
     let i = c.loop-key.invariant in (
       high-top c.requires.0 c.requires.1 c.loop-key.key c.leaf_for-x.result c.leaf_for-y.result
-          c.leaf_for-x.ensures c.leaf_for-y.ensures c.lower-high.result c.lower-high.ensures,
+          c.leaf_for-x.ensures c.leaf_for-y.ensures c.min-high.result c.min-high.ensures,
       omega (
         arith,
         i.1,
         high-low c.requires.0 c.requires.1 c.loop-key.key c.leaf_for-x.result
-            c.leaf_for-y.result c.leaf_for-x.ensures c.leaf_for-y.ensures c.lower-high.result
-            c.lower-high.ensures,
+            c.leaf_for-y.result c.leaf_for-x.ensures c.leaf_for-y.ensures c.min-high.result
+            c.min-high.ensures,
       ),
       i.2 ∙ past-on c.requires.0 c.requires.1 c.loop-key.key c.leaf_for-x.result
-          c.leaf_for-y.result c.leaf_for-x.ensures c.leaf_for-y.ensures c.lower-high.result
-          c.lower-high.ensures false (c.alike.ensures (not-false _ c.if-not-alike.false-raw)),
+          c.leaf_for-y.result c.leaf_for-x.ensures c.leaf_for-y.ensures c.min-high.result
+          c.min-high.ensures false (c.alike.ensures c.if-not-alike.false),
     )
 
 pub returns : goal.returns

@@ -1,13 +1,8 @@
 -- `past` meets its contract. Assumes nothing.
 use Rattle.differ.specs.Listing.{left_of}
-use Rattle.differ.proofs.laws.Past.{high-low, high-top, past-on}
 use Rattle.model.specs.Walk.{key_limit}
-use mathlib.Core.Bool.{false}
-use mathlib.Core.Path.{◌≡◌, refl, ◌∙◌}
-use borrow.Author.Tests.{not-false}
-use native.Mathlib.Omega.{arith}
+use mathlib.Core.Path.{◌≡◌}
 use Prim.Native.Nat.{◌-◌, ◌≤◌}
-use borrow.Author.Rules.{rules}
 use Rattle.differ.proofs.past.Given as goal
 
 abbrev pub invariant-loop-key : goal.invariant-loop-key

@@ -1,9 +1,6 @@
 -- `tell` meets its contract. Assumes nothing.
-use Rattle.differ.proofs.laws.Halfway.{ToldBelow, between_start, between-end, between-space, between_step, high-low, high-top}
-use Rattle.model.specs.Walk.{key_limit}
+use Rattle.differ.proofs.laws.Halfway.{between_start, between-end, between-space, between_step, high-low, high-top}
 use native.Mathlib.Omega.{arith}
-use Prim.Native.Nat.{◌-◌}
-use borrow.Author.Rules.{rules}
 use Rattle.differ.proofs.tell.Goals as goal
 
 pub loop-key-init : goal.loop-key-init
@@ -20,8 +17,8 @@ overflow_sub-a c =
     omega (
       arith,
       high-low c.requires.0 c.requires.1 c.loop-key.invariant c.leaf_for-x.result
-          c.leaf_for-y.result c.leaf_for-x.ensures c.leaf_for-y.ensures c.lower-high.result
-          c.lower-high.ensures,
+          c.leaf_for-y.result c.leaf_for-x.ensures c.leaf_for-y.ensures c.min-high.result
+          c.min-high.ensures,
     )
 
 pub tell-found-requires : goal.tell-found-requires
@@ -31,8 +28,8 @@ tell-found-requires c = (
   c.leaf_for-x.ensures,
   c.leaf_for-y.ensures,
   between-space c.requires.0 c.requires.1 c.loop-key.invariant c.leaf_for-x.result
-      c.leaf_for-y.result c.leaf_for-x.ensures c.leaf_for-y.ensures c.lower-high.result
-      c.lower-high.ensures,
+      c.leaf_for-y.result c.leaf_for-x.ensures c.leaf_for-y.ensures c.min-high.result
+      c.min-high.ensures,
 )
 
 pub loop-key-smaller : goal.loop-key-smaller
@@ -40,17 +37,17 @@ loop-key-smaller c =
     omega (
       arith,
       high-low c.requires.0 c.requires.1 c.loop-key.invariant c.leaf_for-x.result
-          c.leaf_for-y.result c.leaf_for-x.ensures c.leaf_for-y.ensures c.lower-high.result
-          c.lower-high.ensures,
+          c.leaf_for-y.result c.leaf_for-x.ensures c.leaf_for-y.ensures c.min-high.result
+          c.min-high.ensures,
       high-top c.requires.0 c.requires.1 c.loop-key.invariant c.leaf_for-x.result c.leaf_for-y.result
-          c.leaf_for-x.ensures c.leaf_for-y.ensures c.lower-high.result c.lower-high.ensures,
+          c.leaf_for-x.ensures c.leaf_for-y.ensures c.min-high.result c.min-high.ensures,
     )
 
 pub loop-key-preserved : goal.loop-key-preserved
 loop-key-preserved c =
     between_step c.requires.0 c.requires.1 c.loop-key.invariant c.leaf_for-x.result
-    c.leaf_for-y.result c.leaf_for-x.ensures c.leaf_for-y.ensures c.lower-high.result
-    c.lower-high.ensures _ _ c.tell-found.ensures
+    c.leaf_for-y.result c.leaf_for-x.ensures c.leaf_for-y.ensures c.min-high.result
+    c.min-high.ensures _ _ c.tell-found.ensures
 
 pub returns : goal.returns
 returns c = between-end c.requires.0 c.requires.1 c.loop-key.invariant c.loop-key-test.false

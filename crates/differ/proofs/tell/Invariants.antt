@@ -1,9 +1,7 @@
 -- `tell` meets its contract. Assumes nothing.
-use Rattle.differ.proofs.laws.Halfway.{ToldBelow, between_start, between-end, between-space, between_step, high-low, high-top}
+use Rattle.differ.proofs.laws.Halfway.{ToldBelow}
 use Rattle.model.specs.Walk.{key_limit}
-use native.Mathlib.Omega.{arith}
 use Prim.Native.Nat.{◌-◌}
-use borrow.Author.Rules.{rules}
 use Rattle.differ.proofs.tell.Given as goal
 
 abbrev pub invariant-loop-key : goal.invariant-loop-key

@@ -1,6 +1,5 @@
 -- `edit::go` meets its contract: the live entries of another page than an active one end. Assumes nothing.
 use mathlib.Core.Path.{ap, ◌∙◌}
-use borrow.Author.Rules.{rules}
 use Rattle.model.specs.Layout.{encode_page, decode_page}
 use Rattle.edit.proofs.laws.Same.{gone-is}
 use Rattle.edit.proofs.go.Goals as goal

@@ -2,34 +2,45 @@
 use Prim.Native.Nat.{ℕ, ◌^◌, ◌<◌}
 use mathlib.Core.Path.{◌≡◌, refl}
 use mathlib.Core.Bool.{Bool, true, false, ◌&&◌}
+use Rattle.std.specs.Prelude.{Option, Some, None}
 use lib.Dec.{eqb}
 use native.Mathlib.Omega.{arith}
 use borrow.Author.Tests.{ne_eqb}
 use Rattle.model.specs.declared.Entry.{Entry}
 use Rattle.model.specs.Basic.{pick}
-use Rattle.model.specs.Entry.{live_at, alive}
+use Rattle.model.specs.Entry.{live_at, alive, ended_at}
+use Rattle.model.specs.Calls.{revived}
 use Rattle.page.specs.Read.{FieldsFit}
 use Rattle.edit.specs.declared.sift.Rule.{Rule}
 use Rattle.edit.specs.declared.sift.Rule.TheVariants.{Kill, End, Back}
 use Rattle.page.specs.Apart.{Apart}
-use Rattle.edit.specs.Fate.{among_of, end_if, back_if, fate_of, end_of, stay}
+use Rattle.edit.specs.Fate.{among_of, end_if, fate_of, end_of, stay}
 
-pub fate-sized : (r : Rule) (w : ℕ) (e : Entry) → FieldsFit e → w < 2 ^ 20 → FieldsFit (fate_of r w e).entry
+-- what is left of an entry, if anything is, fits its bits
+abbrev pub Sized : Option Entry → Type 0
+Sized None = Unit {0}
+Sized (Some e) = FieldsFit e
+
+pub fate-sized : (r : Rule) (w : ℕ) (e : Entry) → FieldsFit e → w < 2 ^ 20 → Sized (fate_of r w e)
 unfolding fate_of
 fate-sized r w e z h = go r
   where
-    ended : (b : Bool) → FieldsFit (end_if b w e).entry
-    ended true = record { key = z.key; start = z.start; end = h; value = z.value }
+    new : (a : Bool) (f : Entry) → FieldsFit f → Sized (pick a None (Some f))
+    new true f y = tt
+    new false f y = y
+
+    ended : (b : Bool) → Sized (end_if b w e)
+    ended true = new (eqb e.start w) (ended_at w e) (record { key = z.key; start = z.start; end = h; value = z.value })
     ended false = z
 
-    back : (b : Bool) → FieldsFit (back_if b e)
-    back true = record { key = z.key; start = z.start; end = omega arith; value = z.value }
-    back false = z
+    back : (b : Bool) → pick b alive e.end < 2 ^ 20
+    back true = omega arith
+    back false = z.end
 
-    go : (r : Rule) → FieldsFit (fate_of r w e).entry
+    go : (r : Rule) → Sized (fate_of r w e)
     go Kill = ended (live_at w e)
     go (End n a b) = ended (live_at w e && among_of e.key n a b)
-    go Back = back (eqb e.end w)
+    go Back = new (eqb e.start w) (revived w e) (record { key = z.key; start = z.start; end = back (eqb e.end w); value = z.value })
 
 pub end_fits : (r : Rule) (w end : ℕ) → end < 2 ^ 20 → w < 2 ^ 20 → end_of r w end < 2 ^ 20
 unfolding end_of

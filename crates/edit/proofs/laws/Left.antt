@@ -14,7 +14,7 @@ use Rattle.page.specs.Exact.{Valid}
 use Rattle.page.proofs.laws.Exact.{valid-free}
 use Rattle.edit.specs.declared.Change.{Change}
 use Rattle.edit.specs.declared.sift.Rule.TheVariants.{Kill, Back}
-use Rattle.edit.proofs.laws.Valid.{valid-sifted, AllSized, sized-cons}
+use Rattle.edit.proofs.laws.Valid.{valid-sifted, AllSized, sized-cons, born-fits}
 use Rattle.edit.proofs.laws.Same.{killed-is, restored-is}
 use Rattle.edit.specs.Change.{change_of}
 use Rattle.edit.proofs.laws.Change.{second, third, third-is, valid-if, second-valid, second-room}
@@ -47,7 +47,7 @@ valid-changed least w c p hw h1 h2 x1 x2 room v =
 sized-born : (w : ℕ) (l : List Pair) → w < 2 ^ 20 → ((k : ℕ) → Fitting (get_or l k nil)) → AllSized (map (born w) l)
 sized-born w [] hw h = λ k. sized-unused
 sized-born w (x ∷ l) hw h =
-    sized-cons (born w x) (map (born w) l) (record { key = (h 0).key; start = hw; end = omega arith; value = (h 0).value })
+    sized-cons (born w x) (map (born w) l) (born-fits w x (h 0).key (h 0).value hw)
     (sized-born w l hw (λ k. h (suc k)))
 
 pub valid-filled : (least w level : ℕ) (l : List Pair) → w < 2 ^ 20 → level < 16 → length l ≤ 5 * least → ((k : ℕ) → Fitting (get_or l k nil))

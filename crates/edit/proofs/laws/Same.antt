@@ -6,13 +6,14 @@ use mathlib.Core.List.{List, [], ◌∷◌, ◌++◌, map}
 use lib.Dec.{eqb}
 use native.Mathlib.Omega.{arith}
 use borrow.Author.Tests.{le-leb}
+use Rattle.std.specs.Prelude.{Some, None}
 use Rattle.model.specs.declared.Entry.{Entry}
 use Rattle.model.specs.Basic.{pick, has, those, keep}
-use Rattle.model.specs.Entry.{live_at, alive, ended_at, end_one, end_those}
+use Rattle.model.specs.Entry.{live_at, ended_at, end_one, end_those}
 use Rattle.model.specs.Page.{Page, active, free, killed, gone_if, gone}
 use Rattle.model.specs.Calls.{back_by, back, restored, restored_entries, revived}
 use Rattle.edit.specs.declared.sift.Rule.TheVariants.{Kill, End, Back}
-use Rattle.edit.specs.Fate.{fate_of, end_of, left, end_if, among_of, back_if}
+use Rattle.edit.specs.Fate.{fate_of, end_of, left, end_if, among_of}
 use Rattle.edit.specs.Sift.{sifted, sifted_page, freed_or_sifted}
 use Rattle.edit.specs.Same.{first_of}
 
@@ -20,7 +21,7 @@ end-one : (b : Bool) (w : ℕ) (e : Entry) (es : List Entry) → left (end_if b 
 end-one false w e es = refl
 end-one true w e es = go (eqb e.start w)
   where
-    go : (a : Bool) → keep (not a) (ended_at w e) [] ++ es ≡ end_one true a w e es
+    go : (a : Bool) → left (pick a None (Some (ended_at w e))) ++ es ≡ end_one true a w e es
     go true = refl
     go false = refl
 
@@ -64,14 +65,10 @@ none_end a b w (e ∷ es) = rw (none_end a b w es) (go (live_at w e))
 backs : (w : ℕ) (es : List Entry) → sifted Back w es ≡ restored_entries w es
 unfolding sifted fate_of
 backs w [] = refl
-backs w (e ∷ es) = rw (backs w es, revive (eqb e.end w)) (go (not (eqb e.start w)))
+backs w (e ∷ es) = rw (backs w es) (go (eqb e.start w))
   where
-    revive : (b : Bool) → back_if b e ≡ record { key = e.key; start = e.start; end = pick b alive e.end; value = e.value }
-    revive true = refl
-    revive false = refl
-
-    go : (a : Bool) → keep a (revived w e) [] ++ restored_entries w es
-        ≡ map (revived w) (keep a e (those (λ (e : Entry). not (eqb e.start w)) es))
+    go : (a : Bool) → left (pick a None (Some (revived w e))) ++ restored_entries w es
+        ≡ map (revived w) (keep (not a) e (those (λ (e : Entry). not (eqb e.start w)) es))
     go true = refl
     go false = refl
 

@@ -1,7 +1,7 @@
 -- Laws about edit/specs/Sift. Assumes nothing.
 use Prim.Native.Nat.{ℕ, ◌+◌, ◌*◌, ◌-◌, ◌^◌, ◌<◌, ◌≤◌}
 use mathlib.Core.Path.{◌≡◌, refl, ap, sym, ◌∙◌}
-use mathlib.Core.Bool.{Bool, true, false}
+use Rattle.std.specs.Prelude.{Option, Some, None}
 use mathlib.Core.List.{List, [], ◌∷◌, ◌++◌, append_assoc, append-nil}
 use lib.ListN.{length, get_or, take, length-append}
 use lib.Seq.{take-suc}
@@ -9,7 +9,6 @@ use native.Mathlib.Numerals.{add-one}
 use native.Mathlib.Omega.{arith}
 use Rattle.model.specs.declared.Entry.{Entry}
 use Rattle.model.specs.Page.{Page}
-use Rattle.model.specs.Basic.{keep, pick}
 use Rattle.model.specs.Field.{lay}
 use Rattle.model.specs.Layout.{live_of, unused, entry_parts, count_of, decode_page, read_entry, read_entries}
 use Rattle.page.specs.declared.Head.{Head}
@@ -22,9 +21,8 @@ use Rattle.page.specs.Exact.{Exact, encode_with}
 use Rattle.page.specs.Stage.{staged, blanked, entries_in}
 use Rattle.page.proofs.laws.Stage.{staged-from, staged-put, staged-read, staged-shut}
 use Rattle.edit.specs.declared.sift.Rule.{Rule}
-use Rattle.edit.specs.declared.sift.Fate.{Fate}
 use Rattle.edit.specs.Fate.{fate_of, end_of, left, laid}
-use Rattle.edit.proofs.laws.Fate.{end_fits}
+use Rattle.edit.proofs.laws.Fate.{Sized, end_fits}
 use Rattle.edit.specs.Sift.{sifted, sifted_page}
 
 -- the front of a page under a rule, with so many entries
@@ -51,12 +49,9 @@ sifted-more r w es i h =
       append-nil (left (fate_of r w (get_or es i unused))),
     )
 
-pub length-left : (f : Fate) → length (left f) ≤ 1
-length-left f = go f.kept
-  where
-    go : (b : Bool) → length (keep b f.entry []) ≤ 1
-    go true = omega arith
-    go false = omega arith
+pub length-left : (f : Option Entry) → length (left f) ≤ 1
+length-left None = omega arith
+length-left (Some e) = omega arith
 
 pub sifted-short : (r : Rule) (w : ℕ) (es : List Entry) → length (sifted r w es) ≤ length es
 unfolding sifted
@@ -126,10 +121,7 @@ sift-put p q n out e s lt z least four eight x c =
     ∙ staged-put least four eight p x out e (omega (arith, x.room)) z
 
 -- one fate more
-pub sift-step : (p q : List ℕ) (n : ℕ) (out : List Entry) (f : Fate) → Staged p n out q → length out < n → FieldsFit f.entry
+pub sift-step : (p q : List ℕ) (n : ℕ) (out : List Entry) (f : Option Entry) → Staged p n out q → length out < n → Sized f
     → Staged p n (out ++ left f) (laid q (length out) f)
-sift-step p q n out f s lt z = go f.kept
-  where
-    go : (b : Bool) → Staged p n (out ++ keep b f.entry []) (pick b (lay q (128 + 96 * length out) (entry_parts f.entry)) q)
-    go true = sift-put p q n out f.entry s lt z
-    go false = λ least four eight x e. s least four eight x e ∙ ap (staged least p) (sym (append-nil out))
+sift-step p q n out (Some e) s lt z = sift-put p q n out e s lt z
+sift-step p q n out None s lt z = λ least four eight x e. s least four eight x e ∙ ap (staged least p) (sym (append-nil out))

@@ -1,6 +1,5 @@
 -- `edit::undo` meets its contract: another page than an active one comes back. Assumes nothing.
 use mathlib.Core.Path.{ap, ◌∙◌}
-use borrow.Author.Rules.{rules}
 use Rattle.model.specs.Layout.{encode_page, decode_page}
 use Rattle.edit.proofs.laws.Same.{back_is}
 use Rattle.edit.proofs.undo.Goals as goal

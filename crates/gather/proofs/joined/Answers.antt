@@ -1,21 +1,14 @@
-use Rattle.gather.specs.Gather.{pairs_in}
-use Rattle.gather.proofs.laws.Gather.{length_pairs}
-use lib.Seq.{take_all}
-use mathlib.Core.Path.{◌≡◌, ◌∙◌}
+-- `gather::joined` meets its contract: a list and another behind it. Assumes nothing.
+use Prim.Native.Nat.{◌+◌, ◌-◌}
 use native.Mathlib.Omega.{arith}
-use Prim.Native.Nat.{◌-◌}
-use borrow.Author.Rules.{rules}
+use Rattle.gather.specs.Gather.{pairs_in}
+use Rattle.gather.proofs.laws.Gather.{lists-over}
 use Rattle.gather.proofs.joined.Goals as goal
 
 pub returns : goal.returns
+unfolding pairs_in
 returns c =
-    let e : c.args.b.n - 0 ≡ c.args.b.n = omega arith in
-    record {
-      good = c.copied.ensures.good;
-      is = c.copied.ensures.is
-          ∙ rw (
-            e,
-            take_all c.args.b.n (pairs_in c.args.b)
-                (omega (arith, length_pairs c.args.b c.requires.1)),
-          );
-    }
+    let a = c.args.a in let b = c.args.b in let za = c.requires.0 in let zb = c.requires.1 in
+    rw c.copy_from_slice.ensures.after
+    (lists-over a.list b.list a.n 0 b.n (a.n + b.n - a.n) (a.n + b.n) za.size za.fits zb.fits (omega (arith, zb.size))
+    (omega arith) (omega arith) c.requires.2)

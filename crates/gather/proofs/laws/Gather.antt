@@ -4,14 +4,16 @@ use mathlib.Core.Path.{◌≡◌, refl, ap, sym, ◌∙◌}
 use mathlib.Core.Bool.{Bool, true, false}
 use mathlib.Core.List.{List, [], ◌∷◌, ◌++◌, append-nil}
 use mathlib.Core.Logic.{⊎_elim, ◌≢◌}
+use borrow.Rule.Slice.PartMut.{put_mid}
+use Rattle.std.proofs.lemmas.Slice.{take-put_mid}
 use lib.ListN.{length, get_or, take, drop, set, replicate, length-append, length-drop, length-set, length-replicate}
-use lib.Seq.{take-suc, take-suc-set, take-set-le, get_or-set_same, get_or-set_other, get_or-drop, get_or-take, length-take-le, take-take}
+use lib.Seq.{take-suc-set, take-set-le, get_or-set_same, get_or-set_other, get_or-drop, get_or-take, length-take-le, take-take}
 use native.Mathlib.Numerals.{add-one}
 use native.Mathlib.Omega.{arith}
 use Rattle.model.specs.declared.Pair.{Pair}
 use Rattle.model.specs.Basic.{keep}
 use Rattle.model.proofs.lists.Bools.{same?}
-use Rattle.edit.specs.Change.{one}
+use Rattle.std.specs.Int.{from_bool}
 use Rattle.edit.specs.Fill.{nil, Fitting}
 use Rattle.gather.specs.declared.Gather.{Gather}
 use Rattle.gather.specs.Gather.{pairs_in, Good, Lists}
@@ -63,7 +65,7 @@ module _ (g : Gather) (x : Pair) (z : Good g) (h : g.n < 56) (f : Fitting x) whe
   }
 
   -- a pair that is not counted leaves the others as they were
-  pub lists-pushed-if : (yes : Bool) → Lists (record { list = set g.list g.n x; n = g.n + one yes }) (pairs_in g ++ keep yes x [])
+  pub lists-pushed-if : (yes : Bool) → Lists (record { list = set g.list g.n x; n = g.n + from_bool yes }) (pairs_in g ++ keep yes x [])
   unfolding pairs_in
   lists-pushed-if true = lists_pushed
   lists-pushed-if false =
@@ -73,20 +75,55 @@ module _ (g : Gather) (x : Pair) (z : Good g) (h : g.n < 56) (f : Fitting x) whe
         is = rw e (take-set-le g.n g.list g.n x (omega arith) ∙ sym (append-nil (take g.n g.list)));
       }
 
-pub pushed-count : (g r : Gather) (x : Pair) → Good g → Lists r (pairs_in g ++ (x ∷ [])) → r.n ≡ g.n + 1
-pushed-count g r x z w = omega (arith, listed w, length-append (pairs_in g) (x ∷ []), length_pairs g z)
+-- ---- a part of a list laid over another
 
--- ---- a part of a list, copied
+abbrev pub AllFit : List Pair → Type 0
+AllFit l = (k : ℕ) → Fitting (get_or l k nil)
 
-pub part_none : (l : List Pair) (a : ℕ) → take (a - a) (drop a l) ≡ []
-part_none l a = let e : a - a ≡ 0 = omega arith in rw e
+fit-append : (a b : List Pair) → AllFit a → AllFit b → AllFit (a ++ b)
+fit-append [] b h g k = g k
+fit-append (x ∷ a) b h g zero = h 0
+fit-append (x ∷ a) b h g (suc k) = fit-append a b (λ j. h (suc j)) g k
 
-pub part-more : (l : List Pair) (a i : ℕ) → a ≤ i → i < length l
-    → take (i + 1 - a) (drop a l) ≡ take (i - a) (drop a l) ++ (get_or l i nil ∷ [])
-part-more l a i h h2 =
-    let e : i + 1 - a ≡ suc (i - a) = omega arith in
-    let f : a + (i - a) ≡ i = omega arith in
-    rw (e, take-suc (drop a l) (i - a) nil (omega (arith, length-drop a l)), get_or-drop a l (i - a) nil, f)
+fit-take : (n : ℕ) (l : List Pair) → AllFit l → AllFit (take n l)
+fit-take zero l h k = fitting-nil
+fit-take (suc n) [] h k = h k
+fit-take (suc n) (x ∷ l) h zero = h 0
+fit-take (suc n) (x ∷ l) h (suc k) = fit-take n l (λ j. h (suc j)) k
+
+fit-drop : (n : ℕ) (l : List Pair) → AllFit l → AllFit (drop n l)
+fit-drop n l h k = rw (get_or-drop n l k nil) (h (n + k))
+
+pub fit-part : (some from : ℕ) (l : List Pair) → AllFit l → AllFit (take some (drop from l))
+fit-part some from l h = fit-take some (drop from l) (fit-drop from l h)
+
+-- the pairs of m from place `from` on, laid over those of l from place a on: n count then
+pub lists-over : (l m : List Pair) (a from some k n : ℕ) → length l ≡ 56 → AllFit l → AllFit m
+    → from + some ≤ length m → some ≡ k → a + some ≡ n → n ≤ 56
+    → Lists (so_far (put_mid a k l (take some (drop from m))) n) (take a l ++ take some (drop from m))
+unfolding pairs_in
+lists-over l m a from some k n len fl fm room e f h =
+    let ys : List Pair = take some (drop from m) in
+    let long : length ys ≡ some = length-take-le some (drop from m) (omega (arith, length-drop from m)) in
+    let first : length (take a l) ≡ a = length-take-le a l (omega arith) in
+    let size : length (put_mid a k l ys) ≡ 56
+    = omega (
+      arith,
+      length-append (take a l) (ys ++ drop k (drop a l)),
+      length-append ys (drop k (drop a l)),
+      length-drop k (drop a l),
+      length-drop a l,
+    ) in
+    record {
+      good = record {
+        size = size;
+        room = h;
+        fits = fit-append (take a l) (ys ++ drop k (drop a l)) (fit-take a l fl)
+            (fit-append ys (drop k (drop a l)) (fit-part some from m fm)
+            (fit-drop k (drop a l) (fit-drop a l fl)));
+      };
+      is = take-put_mid a k l ys n (omega arith) (omega arith);
+    }
 
 part-of-take : (l : List Pair) (n a b : ℕ) → a ≤ b → b ≤ n → take (b - a) (drop a (take n l)) ≡ take (b - a) (drop a l)
 part-of-take l n zero b h h2 = let e : b - 0 ≡ b = omega arith in rw e (take-take b n l h2)
@@ -100,18 +137,3 @@ part-of-take (x ∷ l) (suc n) (suc a) (suc b) h h2 =
 pub part-pairs : (g : Gather) (a b : ℕ) → a ≤ b → b ≤ g.n → take (b - a) (drop a (pairs_in g)) ≡ take (b - a) (drop a g.list)
 unfolding pairs_in
 part-pairs g a b h h2 = part-of-take g.list g.n a b h h2
-
--- and how many there are then
-pub copied-count : (g b r : Gather) (a n : ℕ) → Good g → Good b → a + n ≤ b.n → Lists r (pairs_in g ++ take n (drop a (pairs_in b)))
-    → r.n ≡ g.n + n
-copied-count g b r a n z w h q =
-    let x : List Pair = drop a (pairs_in b) in
-    let lx : length x ≡ length (pairs_in b) - a = length-drop a (pairs_in b) in
-    omega (
-      arith,
-      listed q,
-      length-append (pairs_in g) (take n x),
-      length_pairs g z,
-      length_pairs b w,
-      length-take-le n x (omega (arith, length_pairs b w)),
-    )

@@ -19,7 +19,8 @@ use Rattle.model.proofs.lists.Lists.{length-enter}
 use Rattle.page.proofs.laws.Read.{count-of, entries-of, length-entries, entries-step, entries-end}
 use Rattle.edit.specs.declared.Change as code
 use Rattle.edit.specs.Same.{first_of}
-use Rattle.edit.specs.Change.{one, first_pairs, change_of}
+use Rattle.std.specs.Int.{from_bool}
+use Rattle.edit.specs.Change.{first_pairs, change_of}
 use Rattle.gather.specs.Kept.{Counted, Fits, kept_pairs}
 
 -- ---- its entries, from place i on
@@ -88,19 +89,23 @@ module _ (w : ℕ) (c : code.Change) (p : Page) where
 
 -- ---- how many entries
 
+pub one-most : (b : Bool) → from_bool b ≤ 1
+one-most true = omega arith
+one-most false = omega arith
+
 -- an entry goes if the change ends it and it starts at w
 abbrev pub stays : ℕ → Change → Entry → Bool
 stays w c e = not ((live_at w e && has e.key c.drop) && eqb e.start w)
 
 unfoldable pub staying : ℕ → Change → List Entry → ℕ
 staying w c [] = 0
-staying w c (e ∷ es) = one (stays w c e) + staying w c es
+staying w c (e ∷ es) = from_bool (stays w c e) + staying w c es
 
 pub staying-none : (w : ℕ) (c : Change) → staying w c [] ≡ 0
 unfolding staying
 staying-none w c = refl
 
-pub staying-step : (w : ℕ) (c : Change) (e : Entry) (es : List Entry) → staying w c (e ∷ es) ≡ one (stays w c e) + staying w c es
+pub staying-step : (w : ℕ) (c : Change) (e : Entry) (es : List Entry) → staying w c (e ∷ es) ≡ from_bool (stays w c e) + staying w c es
 unfolding staying
 staying-step w c e es = refl
 
@@ -109,7 +114,7 @@ unfolding staying
 staying-few w c [] = omega arith
 staying-few w c (e ∷ es) = by (stays w c e) (staying-few w c es)
   where
-    by : (b : Bool) → staying w c es ≤ length es → one b + staying w c es ≤ suc (length es)
+    by : (b : Bool) → staying w c es ≤ length es → from_bool b + staying w c es ≤ suc (length es)
     by true h = omega arith
     by false h = omega arith
 
@@ -122,7 +127,7 @@ ended w c (e ∷ es) = by (live_at w e && has e.key c.drop) (eqb e.start w) (end
     rest : List Entry
     rest = end_those (λ (e : Entry). live_at w e && has e.key c.drop) w es
 
-    by : (a b : Bool) → length rest ≡ staying w c es → length (end_one a b w e rest) ≡ one (not (a && b)) + staying w c es
+    by : (a b : Bool) → length rest ≡ staying w c es → length (end_one a b w e rest) ≡ from_bool (not (a && b)) + staying w c es
     by true true h = omega arith
     by true false h = omega arith
     by false b h = omega arith

@@ -1,17 +1,21 @@
 -- Laws about gather/specs/Place. Assumes nothing.
 use Prim.Native.Nat.{ℕ, zero, suc, ◌+◌, ◌-◌, ◌<◌, ◌≤◌}
-use mathlib.Core.Path.{◌≡◌, refl, ap}
+use mathlib.Core.Path.{◌≡◌, refl, ap, sym, ◌∙◌}
 use mathlib.Core.Bool.{Bool, true, false}
 use mathlib.Core.List.{List, [], ◌∷◌, ◌++◌, append_assoc}
 use lib.Dec.{ltb}
-use lib.ListN.{length, get_or, take, drop, length-drop}
-use lib.Seq.{drop-cons, take_all}
+use borrow.Rule.Slice.PartMut.{put_mid}
+use lib.ListN.{length, get_or, take, drop, set, length-drop}
+use lib.Seq.{drop-cons, take_all, take-take}
 use native.Mathlib.Numerals.{add-one}
 use native.Mathlib.Omega.{arith}
 use Rattle.model.specs.declared.Pair.{Pair}
 use Rattle.model.specs.Basic.{pick}
 use Rattle.model.specs.Entry.{placed, enter_pair}
-use Rattle.edit.specs.Fill.{nil}
+use Rattle.edit.specs.Fill.{nil, Fitting}
+use Rattle.gather.specs.declared.Gather.{Gather}
+use Rattle.gather.specs.Gather.{pairs_in, Good, Lists}
+use Rattle.gather.proofs.laws.Gather.{so_far, length_pairs, lists_pushed, lists-over, part-pairs}
 use Rattle.gather.specs.Place.{place_in}
 
 pub place-low : (k : ℕ) (l : List Pair) → place_in k l ≤ length l
@@ -48,9 +52,20 @@ enter-split x (y ∷ l) = by (ltb x.key y.key) (enter-split x l)
     by true h = refl
     by false h = ap (λ (z : List Pair). y ∷ z) h
 
-pub enter-is : (x : Pair) (l : List Pair) (p n : ℕ) → p ≡ place_in x.key l → n ≡ length l
-    → (([] ++ take (p - 0) (drop 0 l)) ++ (x ∷ [])) ++ take (n - p) (drop p l) ≡ enter_pair x l
-enter-is x l p n e f =
-    let z : p - 0 ≡ p = omega arith in
-    rw (z, append_assoc (take p l) (x ∷ []) (take (n - p) (drop p l)), take_all (n - p) (drop p l) (omega (arith, length-drop p l)), e)
-    (enter-split x l)
+-- those before its place, itself, and the others laid behind it
+pub lists-entered : (g : Gather) (x : Pair) (p : ℕ) → Good g → g.n < 56 → Fitting x → p ≡ place_in x.key (pairs_in g) → p ≤ g.n
+    → Lists (so_far (put_mid (p + 1) (g.n + 1 - (p + 1)) (set g.list p x) (take (g.n - p) (drop p g.list))) (g.n + 1))
+    (enter_pair x (pairs_in g))
+unfolding pairs_in
+lists-entered g x p z room f e low =
+    let h = lists_pushed (so_far g.list p) x (record { size = z.size; room = omega arith; fits = z.fits }) (omega arith) f in
+    let o = lists-over (set g.list p x) g.list (p + 1) p (g.n - p) (g.n + 1 - (p + 1)) (g.n + 1) h.good.size h.good.fits z.fits
+    (omega (arith, z.size)) (omega arith) (omega arith) (omega arith) in
+    let all : List Pair = take g.n g.list in
+    let rest : take (g.n - p) (drop p g.list) ≡ drop p all
+    = sym (part-pairs g p g.n low (omega arith))
+    ∙ take_all (g.n - p) (drop p all) (omega (arith, length-drop p all, length_pairs g z)) in
+    record {
+      good = o.good;
+      is = o.is ∙ rw (h.is, rest, ← take-take p g.n g.list low, append_assoc (take p all) (x ∷ []) (drop p all), e) (enter-split x all);
+    }

@@ -12,16 +12,17 @@ use Rattle.model.specs.Entry.{pair_of, live_at, enter_pair}
 use Rattle.model.specs.Page.{Page, Change, wanted, changed}
 use Rattle.model.proofs.tree.Edit.{length-enter_pair}
 use Rattle.edit.specs.declared.Change as code
-use Rattle.edit.specs.Change.{one, change_of}
+use Rattle.std.specs.Int.{from_bool}
+use Rattle.edit.specs.Change.{change_of}
 use Rattle.gather.specs.Kept.{Fits, kept_pairs}
 use Rattle.gather.proofs.laws.Kept.{kept_step, wanted-none, wanted-one, wanted-two, staying-few, after_is}
 
 -- one entry more
 pub kept_more : (w : ℕ) (c : Change) (e : Entry) (es : List Entry) (b : Bool) → b ≡ (live_at w e && not (has e.key c.drop))
-    → length (kept_pairs w c (e ∷ es)) ≡ one b + length (kept_pairs w c es)
+    → length (kept_pairs w c (e ∷ es)) ≡ from_bool b + length (kept_pairs w c es)
 kept_more w c e es b h = ap length (kept_step w c e es [] b h) ∙ by b
   where
-    by : (b : Bool) → length (([] ++ keep b (pair_of e) []) ++ kept_pairs w c es) ≡ one b + length (kept_pairs w c es)
+    by : (b : Bool) → length (([] ++ keep b (pair_of e) []) ++ kept_pairs w c es) ≡ from_bool b + length (kept_pairs w c es)
     by true = omega arith
     by false = omega arith
 

@@ -1,9 +1,9 @@
+-- `gather::live_pairs` meets its contract: nothing is dropped. Assumes nothing.
 use Rattle.gather.proofs.laws.Kept.{kept-live}
 use Rattle.edit.specs.Change.{change_of}
 use Rattle.model.specs.Layout.{decode_page}
 use mathlib.Core.Path.{refl, ◌∙◌}
 use mathlib.Core.List.{[]}
-use borrow.Author.Rules.{rules}
 use Rattle.gather.proofs.live_pairs.Goals as goal
 
 pub returns : goal.returns

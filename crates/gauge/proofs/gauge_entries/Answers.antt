@@ -33,9 +33,6 @@ step c =
 pub overflow_add-r-in-loop-i-3 : goal.overflow_add-r-in-loop-i-3
 overflow_add-r-in-loop-i-3 c = let l = c.loop-i in let a = c.args in omega (arith, step (goal.at.overflow_add-r-in-loop-i-3 c).After-struct_known-in-loop-i-3-1, entries-small a.page.now (l.i + 1), l.invariant.0.many)
 
-pub overflow_add-i : goal.overflow_add-i
-overflow_add-i c = omega (arith, c.loop-i.invariant.0.many)
-
 pub loop-i-preserved : goal.loop-i-preserved
 loop-i-preserved c = (c.loop-i.invariant.0, omega arith, step (goal.at.loop-i-preserved c).After-struct_known-in-loop-i-3-1)
 

@@ -10,6 +10,3 @@ use Rattle.gauge.proofs.gauge_entries.Given as goal
 
 abbrev pub invariant-loop-i : goal.invariant-loop-i
 invariant-loop-i l = GaugeFit (length l.page) 128 0 l.n × (l.i ≤ l.n) × (l.r ≡ entry_sum l.page l.i)
-
-abbrev pub decreases-loop-i : goal.decreases-loop-i
-decreases-loop-i l = l.n - l.i

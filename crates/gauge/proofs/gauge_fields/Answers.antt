@@ -41,9 +41,6 @@ overflow_add-r c =
     let l = c.loop-i in let a = c.args in
     omega (arith, step (goal.at.overflow_add-r c).After-field, fields-small a.s.now a.at a.width (l.i + 1) l.invariant.0.wide, l.invariant.0.many)
 
-pub overflow_add-i : goal.overflow_add-i
-overflow_add-i c = omega (arith, c.loop-i.invariant.0.many)
-
 pub loop-i-preserved : goal.loop-i-preserved
 loop-i-preserved c = (c.loop-i.invariant.0, omega arith, step (goal.at.loop-i-preserved c).After-field)
 

@@ -10,6 +10,3 @@ use Rattle.gauge.proofs.gauge_fields.Given as goal
 
 abbrev pub invariant-loop-i : goal.invariant-loop-i
 invariant-loop-i l = GaugeFit (length l.s) l.at l.width l.n × (l.i ≤ l.n) × (l.r ≡ field_sum l.s l.at l.width l.i)
-
-abbrev pub decreases-loop-i : goal.decreases-loop-i
-decreases-loop-i l = l.n - l.i

@@ -4,9 +4,7 @@ use native.Mathlib.Omega.{arith}
 use borrow.Author.Tests.{not-true, not-false}
 use lib.ListN.{length}
 use Rattle.gauge.proofs.laws.Gauge.{fillable, fitting-all, filled-four}
-use Rattle.page.proofs.laws.Editions.{edition-of}
-use Rattle.model.specs.Limits.{Edition}
-use Rattle.model.specs.declared.Limits.{Limits}
+use Rattle.model.proofs.Edition.{edition}
 use borrow.Author.Rules.{rules}
 use Rattle.gauge.proofs.gauge_fill.Goals as goal
 
@@ -20,11 +18,10 @@ returns-then-not-fill_fits c =
 pub fill-requires : goal.fill-requires
 fill-requires c =
     let a = c.args in
-    let d : Edition c.edition_one.result = edition-of 4 c.edition_one.ensures.one (omega arith) (omega arith) in
-    let l = ap (λ (x : Limits). x.least) c.edition_one.ensures.one in
+    let d = edition c.edition_one.result in
+    let l = c.edition_one.ensures.one in
     let f = fillable (length a.page.now) a.w a.key a.n
     (sym c.fill_fits.ensures ∙ not-false _ c.if-not-fill_fits.false-raw) in (
-      d,
       omega (arith, f.page, l),
       omega arith,
       omega (arith, f.version),
@@ -36,7 +33,7 @@ fill-requires c =
 pub returns : goal.returns
 returns c =
     let a = c.args in
-    let l = ap (λ (x : Limits). x.least) c.edition_one.ensures.one in
+    let l = c.edition_one.ensures.one in
     let e = sym c.fill_fits.ensures ∙ not-false _ c.if-not-fill_fits.false-raw in record {
       number = rw e (refl);
       bytes = rw e (c.fill.ensures ∙ filled-four a.w a.key a.value a.n

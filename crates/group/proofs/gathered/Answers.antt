@@ -1,3 +1,5 @@
+use Rattle.std.specs.Prelude.{Some}
+use Rattle.model.specs.declared.Pair.{Pair}
 use Rattle.group.specs.Group.{routers_of, group_of}
 use Rattle.group.proofs.laws.Group.{gather-right, gather-left, gather_none, gather-alone}
 use Rattle.parts.specs.Kept.{pages_of}
@@ -5,24 +7,18 @@ use Rattle.parts.proofs.laws.Kept.{live-few}
 use Rattle.gather.specs.Gather.{pairs_in}
 use Rattle.gather.proofs.laws.Gather.{length_pairs, listed}
 use Rattle.page.proofs.laws.Editions.{merge-is}
-use borrow.Author.Tests.{not-true, not-false}
 use lib.ListN.{length-append}
 use native.Mathlib.Omega.{arith}
-use mathlib.Core.Bool.{false}
 use mathlib.Core.Path.{◌≡◌}
 use Prim.Native.Nat.{◌*◌, ◌≤◌, ◌<◌}
-use borrow.Author.Rules.{rules}
 use Rattle.group.proofs.gathered.Goals as goal
 
-pub live_of-requires : goal.live_of-requires
-live_of-requires c =
-    rw c.wide.ensures
-    (c.requires.0, (c.requires.1.right (not-true c.args.a.rightmost c.if-not-a.true)).inside)
+same_some : {x y : Pair} → Some x ≡ Some y → x ≡ y
+same_some e = cc
 
 pub joined-all-requires : goal.joined-all-requires
 joined-all-requires c =
-    let i = rw (← c.wide.ensures) at
-    (c.requires.1.right (not-true c.args.a.rightmost c.if-not-a.true)).inside in (
+    let i = (c.requires.1.right c.in-Some.right c.in-Some.is).inside in (
       c.requires.2,
       c.live_of.ensures.good,
       omega (
@@ -35,17 +31,15 @@ joined-all-requires c =
       ),
     )
 
-pub returns-then-not-a : goal.returns-then-not-a
+pub returns-in-Some : goal.returns-in-Some
 unfolding group_of routers_of
-returns-then-not-a c =
-    let e : c.args.a.rightmost ≡ false = not-true c.args.a.rightmost c.if-not-a.true in
-    let x = c.requires.1.right e in
-    let i = rw (← c.wide.ensures) at x.inside in
+returns-in-Some c =
+    let x = c.requires.1.right c.in-Some.right c.in-Some.is in
     let h : c.args.want.n < 2 * c.args.l.least
     = omega (arith, merge-is c.requires.0.edition, c.if-want-l.true) in
     let n = length-append (pairs_in c.args.want) (pairs_in c.live_of.result) in (
       record {
-        routed = record { first = c.requires.1.own; second = x };
+        routed = record { first = c.requires.1.own; second = λ y e. rw (← same_some e) x };
         good = c.joined-all.ensures.good;
         few = omega (
           arith,
@@ -54,28 +48,22 @@ returns-then-not-a c =
           length_pairs c.args.want c.requires.2,
           length_pairs c.live_of.result c.live_of.ensures.good,
           listed c.live_of.ensures,
-          live-few c.requires.0 i c.args.w,
+          live-few c.requires.0 x.inside c.args.w,
         );
       },
-      rw (c.joined-all.ensures.is, c.live_of.ensures.is, c.wide.ensures)
+      rw (c.joined-all.ensures.is, c.live_of.ensures.is)
           (gather-right c.args.l.least c.args.w (pages_of c.args.l c.args.s.now)
-          c.args.a c.args.want c.requires.2 h e),
+          c.args.a c.args.want c.requires.2 h c.in-Some.right c.in-Some.is),
     )
 
-pub live_of-requires-then-not-a-2 : goal.live_of-requires-then-not-a-2
-live_of-requires-then-not-a-2 c =
-    rw c.wide-then-not-a-2.ensures
-    (c.requires.0, (c.requires.1.left (not-true c.args.a.leftmost c.if-not-a-2.true)).inside)
-
-pub joined-all-requires-then-not-a-2 : goal.joined-all-requires-then-not-a-2
-joined-all-requires-then-not-a-2 c =
-    let i = rw (← c.wide-then-not-a-2.ensures) at
-    (c.requires.1.left (not-true c.args.a.leftmost c.if-not-a-2.true)).inside in (
-      c.live_of-then-not-a-2.ensures.good,
+pub joined-all-requires-in-Some-left : goal.joined-all-requires-in-Some-left
+joined-all-requires-in-Some-left c =
+    let i = (c.requires.1.left c.in-Some-left.left c.in-Some-left.is).inside in (
+      c.live_of-in-Some-left.ensures.good,
       c.requires.2,
       omega (
         arith,
-        listed c.live_of-then-not-a-2.ensures,
+        listed c.live_of-in-Some-left.ensures,
         live-few c.requires.0 i c.args.w,
         merge-is c.requires.0.edition,
         c.if-want-l.true,
@@ -83,46 +71,43 @@ joined-all-requires-then-not-a-2 c =
       ),
     )
 
-pub returns-then-not-a-2 : goal.returns-then-not-a-2
+pub returns-in-Some-left : goal.returns-in-Some-left
 unfolding group_of routers_of
-returns-then-not-a-2 c =
-    let e : c.args.a.leftmost ≡ false = not-true c.args.a.leftmost c.if-not-a-2.true in
-    let x = c.requires.1.left e in
-    let i = rw (← c.wide-then-not-a-2.ensures) at x.inside in
+returns-in-Some-left c =
+    let x = c.requires.1.left c.in-Some-left.left c.in-Some-left.is in
     let h : c.args.want.n < 2 * c.args.l.least
     = omega (arith, merge-is c.requires.0.edition, c.if-want-l.true) in
-    let n = length-append (pairs_in c.live_of-then-not-a-2.result) (pairs_in c.args.want) in (
+    let n = length-append (pairs_in c.live_of-in-Some-left.result) (pairs_in c.args.want) in (
       record {
-        routed = record { first = x; second = c.requires.1.own };
-        good = c.joined-all-then-not-a-2.ensures.good;
+        routed = record { first = x; second = λ y e. rw (← same_some e) c.requires.1.own };
+        good = c.joined-all-in-Some-left.ensures.good;
         few = omega (
           arith,
-          listed c.joined-all-then-not-a-2.ensures,
+          listed c.joined-all-in-Some-left.ensures,
           n,
           length_pairs c.args.want c.requires.2,
-          length_pairs c.live_of-then-not-a-2.result c.live_of-then-not-a-2.ensures.good,
-          listed c.live_of-then-not-a-2.ensures,
-          live-few c.requires.0 i c.args.w,
+          length_pairs c.live_of-in-Some-left.result c.live_of-in-Some-left.ensures.good,
+          listed c.live_of-in-Some-left.ensures,
+          live-few c.requires.0 x.inside c.args.w,
         );
       },
-      rw (c.joined-all-then-not-a-2.ensures.is, c.live_of-then-not-a-2.ensures.is, c.wide-then-not-a-2.ensures)
+      rw (c.joined-all-in-Some-left.ensures.is, c.live_of-in-Some-left.ensures.is)
           (gather-left c.args.l.least c.args.w (pages_of c.args.l c.args.s.now)
-          c.args.a c.args.want c.requires.2 h (not-false c.args.a.rightmost c.if-not-a.false) e),
+          c.args.a c.args.want c.requires.2 h c.in_default.is c.in-Some-left.left c.in-Some-left.is),
     )
 
-pub returns-else-not-a-2 : goal.returns-else-not-a-2
+pub returns-in_default-left : goal.returns-in_default-left
 unfolding group_of routers_of
-returns-else-not-a-2 c =
+returns-in_default-left c =
     let h : c.args.want.n < 2 * c.args.l.least
     = omega (arith, merge-is c.requires.0.edition, c.if-want-l.true) in (
       record {
-        routed = record { first = c.requires.1.own; second = c.requires.1.own };
+        routed = record { first = c.requires.1.own; second = λ y e. cc };
         good = c.requires.2;
         few = c.requires.3;
       },
       gather_none c.args.l.least c.args.w (pages_of c.args.l c.args.s.now) c.args.a
-          c.args.want c.requires.2 h (not-false c.args.a.rightmost c.if-not-a.false)
-          (not-false c.args.a.leftmost c.if-not-a-2.false),
+          c.args.want c.requires.2 h c.in_default.is c.in_default-left.is,
     )
 
 pub returns-else-want-l : goal.returns-else-want-l
@@ -130,7 +115,7 @@ unfolding group_of routers_of
 returns-else-want-l c =
     let h : 2 * c.args.l.least ≤ c.args.want.n = omega (arith, merge-is c.requires.0.edition, c.if-want-l.false) in (
       record {
-        routed = record { first = c.requires.1.own; second = c.requires.1.own };
+        routed = record { first = c.requires.1.own; second = λ y e. cc };
         good = c.requires.2;
         few = c.requires.3;
       },

@@ -1,12 +1,13 @@
 -- Laws about group/specs/Group. Assumes nothing.
 use Prim.Native.Nat.{ℕ, ◌*◌, ◌<◌, ◌≤◌}
 use mathlib.Core.Path.{◌≡◌, sym}
-use mathlib.Core.Bool.{Bool, true, false}
 use mathlib.Core.List.{List, [], ◌∷◌, ◌++◌}
 use lib.Dec.{ltb}
 use lib.ListN.{length}
 use native.Mathlib.Omega.{arith}
 use borrow.Author.Tests.{lt-ltb, le-ltb}
+use Rattle.std.specs.Prelude.{None, Some}
+use Rattle.model.specs.declared.Pair.{Pair}
 use Rattle.model.specs.Page.{Page, pairs_at}
 use Rattle.model.specs.Store.{page}
 use Rattle.model.specs.Rules.{gather_by, with_neighbour}
@@ -19,22 +20,19 @@ use Rattle.group.specs.Group.{around_of}
 -- ---- the cases of gathering
 
 module _ (least w : ℕ) (ps : List Page) (a : Around) (want : Gather) (z : Good want) where
-  abbrev under : Bool
-  under = ltb (length (pairs_in want)) (2 * least)
-
-  pub gather-right : want.n < 2 * least → a.rightmost ≡ false
-      → record { routers = a.own ∷ a.right ∷ []; pairs = pairs_in want ++ pairs_at w (page ps a.right.value) }
+  pub gather-right : want.n < 2 * least → (x : Pair) → a.right ≡ Some x
+      → record { routers = a.own ∷ x ∷ []; pairs = pairs_in want ++ pairs_at w (page ps x.value) }
       ≡ gather_by (ltb (length (pairs_in want)) (2 * least)) w ps (around_of a) (pairs_in want)
   unfolding gather_by with_neighbour around_of
-  gather-right h e = sym (rw (lt-ltb (length (pairs_in want)) (2 * least) (omega (arith, length_pairs want z)), e))
+  gather-right h x e = sym (rw (lt-ltb (length (pairs_in want)) (2 * least) (omega (arith, length_pairs want z)), e))
 
-  pub gather-left : want.n < 2 * least → a.rightmost ≡ true → a.leftmost ≡ false
-      → record { routers = a.left ∷ a.own ∷ []; pairs = pairs_at w (page ps a.left.value) ++ pairs_in want }
+  pub gather-left : want.n < 2 * least → a.right ≡ None → (x : Pair) → a.left ≡ Some x
+      → record { routers = x ∷ a.own ∷ []; pairs = pairs_at w (page ps x.value) ++ pairs_in want }
       ≡ gather_by (ltb (length (pairs_in want)) (2 * least)) w ps (around_of a) (pairs_in want)
   unfolding gather_by with_neighbour around_of
-  gather-left h e f = sym (rw (lt-ltb (length (pairs_in want)) (2 * least) (omega (arith, length_pairs want z)), e, f))
+  gather-left h e x f = sym (rw (lt-ltb (length (pairs_in want)) (2 * least) (omega (arith, length_pairs want z)), e, f))
 
-  pub gather_none : want.n < 2 * least → a.rightmost ≡ true → a.leftmost ≡ true
+  pub gather_none : want.n < 2 * least → a.right ≡ None → a.left ≡ None
       → record { routers = a.own ∷ []; pairs = pairs_in want }
       ≡ gather_by (ltb (length (pairs_in want)) (2 * least)) w ps (around_of a) (pairs_in want)
   unfolding gather_by with_neighbour around_of

@@ -1,13 +1,14 @@
 -- Laws about group/specs/Numbers. Assumes nothing.
 use Prim.Native.Nat.{ℕ, zero, suc, ◌+◌, ◌^◌, ◌≤◌, ◌<◌}
 use mathlib.Core.Path.{◌≡◌, refl, sym}
-use mathlib.Core.Bool.{Bool, true, false, ◌&&◌}
+use mathlib.Core.Bool.{Bool, true, false}
 use mathlib.Core.Logic.{◌⊎◌, inl, inr}
 use mathlib.Core.List.{List, [], ◌∷◌, ◌++◌, map}
 use native.Mathlib.Omega.{arith}
 use lib.Dec.{leb, ltb}
 use lib.ListN.{length, get_or, take, length-take}
 use borrow.Author.Tests.{le-leb, ltb-true, ltb-false}
+use Rattle.std.specs.Prelude.{Option, None, Some, option_to_list}
 use Rattle.model.specs.declared.Limits.{Limits}
 use Rattle.model.specs.declared.Pair.{Pair}
 use Rattle.model.specs.Basic.{keep}
@@ -24,7 +25,7 @@ use Rattle.parts.specs.Free.{free_past, Found}
 use Rattle.parts.proofs.laws.Free.{free_all}
 use Rattle.group.specs.declared.Numbers.{Numbers}
 use Rattle.group.specs.declared.Routers.{Routers}
-use Rattle.group.specs.Group.{one_or_two, routers_of, Routed}
+use Rattle.group.specs.Group.{routers_of, Routed}
 use Rattle.group.specs.Numbers.{Numbered, first_numbers, numbers_of}
 
 pub numbers-are : (u : Numbers) (ns : List ℕ) → Numbered u ns → length ns ≤ 2 → numbers_of u ≡ ns
@@ -84,24 +85,23 @@ two-twice (x ∷ []) (y ∷ y' ∷ ys) h = refl
 two-twice (x ∷ x' ∷ xs) ys h = refl
 
 module _ (w : ℕ) (ps : List Page) (rs : Routers) where
-  pub actives-are : keep (active w (page ps rs.first.value)) rs.first.value
-      (keep (rs.two && active w (page ps rs.second.value)) rs.second.value []) ≡ actives w ps (routers_of rs)
+  pub actives-one : rs.second ≡ None → keep (active w (page ps rs.first.value)) rs.first.value [] ≡ actives w ps (routers_of rs)
   unfolding routers_of
-  actives-are = by rs.two
-    where
-      by : (t : Bool) → keep (active w (page ps rs.first.value)) rs.first.value
-          (keep (t && active w (page ps rs.second.value)) rs.second.value [])
-          ≡ actives w ps (one_or_two t rs.first rs.second)
-      by true = refl
-      by false = refl
+  actives-one e = sym (rw e)
+
+  pub actives-both : (x : Pair) → rs.second ≡ Some x
+      → keep (active w (page ps rs.first.value)) rs.first.value (keep (active w (page ps x.value)) x.value [])
+      ≡ actives w ps (routers_of rs)
+  unfolding routers_of
+  actives-both x e = sym (rw e)
 
   pub actives-two : length (actives w ps (routers_of rs)) ≤ 2
   unfolding routers_of
-  actives-two = omega (arith, actives-few w ps (one_or_two rs.two rs.first rs.second), by rs.two)
+  actives-two = omega (arith, actives-few w ps (rs.first ∷ option_to_list rs.second), by rs.second)
     where
-      by : (t : Bool) → length (one_or_two t rs.first rs.second) ≤ 2
-      by true = omega arith
-      by false = omega arith
+      by : (o : Option Pair) → length (rs.first ∷ option_to_list o) ≤ 2
+      by (Some x) = omega arith
+      by None = omega arith
 
   pub usable-two : take 2 (actives w ps (routers_of rs) ++ take 2 (free_ones ps)) ≡ take 2 (usable w ps (routers_of rs))
   unfolding usable
@@ -123,19 +123,20 @@ module _ (ps : List Page) (size x : ℕ) (f : Found ps 5 size x) where
 -- ---- all of them are pages of the store
 
 module _ (l : Limits) (b : List ℕ) (w : ℕ) (rs : Routers) (r : Routed l b rs) where
-  router-in : (t : Bool) (n : ℕ) → In n (map (λ (x : Pair). x.value) (one_or_two t rs.first rs.second)) → Inside l b n
-  router-in true n (inl e) = rw e r.first.inside
-  router-in true n (inr (inl e)) = rw e r.second.inside
-  router-in true n (inr (inr j)) = absurd j
-  router-in false n (inl e) = rw e r.first.inside
-  router-in false n (inr j) = absurd j
+  router-in : (o : Option Pair) → rs.second ≡ o → (n : ℕ)
+      → In n (map (λ (x : Pair). x.value) (rs.first ∷ option_to_list o)) → Inside l b n
+  router-in (Some x) h n (inl e) = rw e r.first.inside
+  router-in (Some x) h n (inr (inl e)) = rw e (r.second x h).inside
+  router-in (Some x) h n (inr (inr j)) = absurd j
+  router-in None h n (inl e) = rw e r.first.inside
+  router-in None h n (inr j) = absurd j
 
   pub active-in : (n : ℕ) → In n (actives w (pages_of l b) (routers_of rs)) → Inside l b n
   unfolding routers_of
   active-in n j =
-      router-in rs.two n
+      router-in rs.second refl n
       (in-those (λ (m : ℕ). active w (page (pages_of l b) m)) n
-      (map (λ (x : Pair). x.value) (one_or_two rs.two rs.first rs.second)) j).1
+      (map (λ (x : Pair). x.value) (rs.first ∷ option_to_list rs.second)) j).1
 
   pub usable-in : (n : ℕ) → In n (usable w (pages_of l b) (routers_of rs)) → Inside l b n
   unfolding usable

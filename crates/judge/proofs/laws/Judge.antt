@@ -3,13 +3,30 @@ use Prim.Native.Nat.{ℕ, zero, suc}
 use mathlib.Core.Bool.{Bool, true, false}
 use mathlib.Core.Path.{◌≡◌, refl, ap}
 use mathlib.Core.List.{List}
+use native.Mathlib.Omega.{arith}
+use Rattle.std.specs.Prelude.{Err, ⊤}
 use Rattle.model.specs.Basic.{pick}
+use Rattle.model.specs.Verdict.{Verdict}
+use Rattle.model.specs.declared.refusal.Fault.{Fault}
+use Rattle.model.specs.declared.refusal.Fault.TheVariants.{Refused, Broken}
+use Rattle.model.specs.Refusals.{verdict_in}
+use Rattle.store.proofs.laws.Refused.{refuses-some}
 use Rattle.model.specs.Judged.{length_ok, magic_ok, edition_ok, broken_in, verdict, ruled, judged}
 use Rattle.quick.specs.Number.{refused_by}
 use Rattle.quick.proofs.laws.Number.{not-refused}
 
-pub ruled-none : (r : ℕ) → r ≡ 0 → ruled r ≡ verdict 0 0
-ruled-none r e = ap ruled e
+numbers : {v w : Verdict} → v ≡ w → v.number ≡ w.number
+numbers e = ap (λ (v : Verdict). v.number) e
+
+pub ruled-none : (r : ℕ) → verdict 0 0 ≡ ruled r → r ≡ 0
+ruled-none zero e = refl
+ruled-none (suc r) e = absurd (omega (arith, numbers e))
+
+-- what is found has a number
+pub faulted : (e : Fault) (r : ℕ) → verdict_in {A = ⊤} (Err e) ≡ ruled r → r ≡ 0 → ⊥
+faulted (Refused x) zero q z = refuses-some x (numbers q)
+faulted (Broken x) zero q z = omega (arith, numbers q)
+faulted e (suc r) q z = omega arith
 
 pub ruled-some : (r : ℕ) → (r ≡ 0 → ⊥) → ruled r ≡ verdict 4 r
 ruled-some zero u = absurd (u refl)

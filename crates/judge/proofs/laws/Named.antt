@@ -1,6 +1,5 @@
--- Rules 4 to 7 as `check` names them: where `quick` says that 4 to 6 hold, rule 7 is left, else they are named by the notes, by the reach
--- walk at
--- the last version, by the sums and the slots. Assumes nothing.
+-- Rules 4 to 6 as `check` names them, where `quick` does not say that they hold: by the notes, by the reach walk at the last version, by
+-- the sums and the slots. Assumes nothing.
 use Prim.Native.Nat.{ℕ, ◌≤◌}
 use native.Mathlib.Omega.{arith}
 use mathlib.Core.Bool.{Bool, true, false, ◌&&◌}
@@ -8,42 +7,29 @@ use mathlib.Core.Path.{◌≡◌, refl, sym, ◌∙◌}
 use mathlib.Core.List.{List}
 use lib.ListN.{drop}
 use Rattle.model.specs.declared.Header.{Header}
-use Rattle.model.specs.Basic.{pick}
 use Rattle.model.specs.Store.{last_of}
-use Rattle.model.specs.Sound.{rule2, rule3, rule4, rule5, rule6, rule7}
+use Rattle.model.specs.Sound.{rule2, rule3, rule4, rule5, rule6}
 use Rattle.model.specs.Layout.{decode, read_header}
 use Rattle.model.specs.Clean.{clean}
 use Rattle.spans.specs.Quick.{spans_met, slots_fine, quick}
 use Rattle.model.proofs.lists.Lists.{both_true}
 use Rattle.spans.proofs.laws.Quick.{quick-rules}
-use Rattle.model.proofs.sound.Judging.{clean-first, lower-four, lower-five, lower-six, lower-seven, lower-none}
+use Rattle.model.proofs.sound.Judging.{clean-first, lower-four, lower-five, lower-six}
 use Rattle.model.specs.Inner.{lower_in}
 use Rattle.notes.specs.Pass.{told}
 use Rattle.notes.proofs.laws.Six.{six-by}
 use Rattle.reach.specs.Versions.{version_ok}
 use Rattle.reach.proofs.laws.Rules.{six-missed}
 
--- ---- rule 7, once all lower ones hold
+-- ---- none of 4 to 6
 
-seven-named : (least : ℕ) (b : List ℕ) → clean least b ≡ true → rule2 (decode least b) ≡ true → rule3 (decode least b) ≡ true
-    → rule4 (decode least b) ≡ true → rule5 least (decode least b) ≡ true
-    → rule6 (decode least b) ≡ true → pick (rule7 (decode least b)) 0 7 ≡ lower_in least b
-seven-named least b r1 r2 r3 r4 r5 r6 = at (rule7 (decode least b)) refl
-  where
-    at : (x : Bool) → rule7 (decode least b) ≡ x → pick x 0 7 ≡ lower_in least b
-    at true e = sym (lower-none least b r1 r2 r3 r4 r5 r6 e)
-    at false e = sym (lower-seven least b r1 r2 r3 r4 r5 r6 e)
-
--- ---- none
-
-pub named-sound : (least : ℕ) (b : List ℕ) → 2 ≤ least → clean least b ≡ true → rule2 (decode least b) ≡ true
-    → rule3 (decode least b) ≡ true → quick least (decode least b) ≡ true
-    → (r : ℕ) → r ≡ pick (rule7 (decode least b)) 0 7 → r ≡ lower_in least b
-named-sound least b two r1 r2 r3 h r q =
+pub of-quick : (least : ℕ) (b : List ℕ) → 2 ≤ least → clean least b ≡ true → rule2 (decode least b) ≡ true → rule3 (decode least b) ≡ true
+    → quick least (decode least b) ≡ true
+    → (rule4 (decode least b) ≡ true) × (rule5 least (decode least b) ≡ true) × (rule6 (decode least b) ≡ true)
+of-quick least b two r1 r2 r3 h =
     let s = decode least b in
     let (r45, r6) = both_true (rule4 s && rule5 least s) (rule6 s) (sym (quick-rules least two s (clean-first least b r1) r2 r3) ∙ h) in
-    let (r4, r5) = both_true (rule4 s) (rule5 least s) r45 in
-    q ∙ seven-named least b r1 r2 r3 r4 r5 r6
+    let (r4, r5) = both_true (rule4 s) (rule5 least s) r45 in (r4, r5, r6)
 
 -- ---- rules 4 and 5
 
@@ -83,5 +69,6 @@ module _ (least : ℕ) (b : List ℕ) (r1 : clean least b ≡ true) (r2 : rule2 
       pub six-led : d ≡ false → 6 ≡ lower_in least b
       six-led f = let (r4, r5) = named_none z in sym (lower-six least b r1 r2 r3 r4 r5 (sixth ∙ f))
 
-      pub six-none : d ≡ true → (r' : ℕ) → r' ≡ pick (rule7 (decode least b)) 0 7 → r' ≡ lower_in least b
-      six-none f r' g = let (r4, r5) = named_none z in g ∙ seven-named least b r1 r2 r3 r4 r5 (sixth ∙ f)
+      pub six-none : d ≡ true
+          → (rule4 (decode least b) ≡ true) × (rule5 least (decode least b) ≡ true) × (rule6 (decode least b) ≡ true)
+      six-none f = let (r4, r5) = named_none z in (r4, r5, sixth ∙ f)

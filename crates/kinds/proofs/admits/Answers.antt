@@ -1,19 +1,16 @@
-use mathlib.Core.Path.{sym, ap, ◌∙◌}
-use Rattle.model.specs.Kinds.{admits, level_in}
-use Rattle.model.specs.declared.Kind.{Kind}
-use borrow.Author.Rules.{rules}
+-- A level's floats are compared as the definition compares them. Assumes nothing.
+use Rattle.std.proofs.Common.{arith, ◌≡◌, ◌∙◌, ap}
+use Rattle.std.specs.Ordering.{partial_le, float_partial_cmp}
+use mathlib.Core.Bool.{Bool, ◌&&◌}
+use lib.Ieee.{Float, le}
 use Rattle.kinds.proofs.admits.Goals as goal
 
-pub returns-in-Whole : goal.returns-in-Whole
-returns-in-Whole c =
-    let a = c.args in
-    c.whole_in.ensures ∙ sym (ap (λ (k : Kind). admits k a.value) c.in-Whole.is)
-
-pub returns-in-Switch : goal.returns-in-Switch
-returns-in-Switch c = sym (ap (λ (k : Kind). admits k c.args.value) c.in-Switch.is)
+float-le : (x y : Float) → partial_le float_partial_cmp x y ≡ le x y
+unfolding le
+float-le x y = grind arith
 
 pub returns-in-Level : goal.returns-in-Level
 returns-in-Level c =
-    let a = c.args in
-    c.level_in.ensures ∙ ap (level_in _ _) c.float_of.ensures
-    ∙ sym (ap (λ (k : Kind). admits k a.value) c.in-Level.is)
+    let k = c.new-in-Level.ensures in let l = c.in-Level in let x = c.float_of.result in
+    rw (l.is, c.contains-in-Level.ensures.value, k.start, k.end, k.exhausted, ← c.float_of.ensures)
+    (ap (λ (b : Bool). b && partial_le float_partial_cmp x l.high) (float-le l.low x) ∙ ap (λ (b : Bool). le l.low x && b) (float-le x l.high))

@@ -1,14 +1,10 @@
 -- `change_after` meets its contract: up to u the answer has not changed. Assumes nothing.
-use Prim.Native.Nat.{suc, ◌-◌}
 use native.Mathlib.Omega.{arith}
-use mathlib.Core.Path.{ap₂, sym, ◌∙◌}
+use mathlib.Core.Path.{sym, ◌∙◌}
 use Rattle.model.specs.Walk.{lookup}
 use Rattle.model.specs.Layout.{decode}
-use Rattle.life.specs.Lived.{same_as}
-use Rattle.model.proofs.reading.Lives.{Lasting, lasts_on, lasts-other, lasts-end}
+use Rattle.model.proofs.reading.Lives.{lasts_on, lasts-other, lasts-end}
 use Rattle.life.proofs.laws.Lived.{same_true, same_false, reads_at, low}
-use borrow.Author.Rules.{rules}
-use borrow.Author.Tests.{not-true, not-false}
 use Rattle.life.proofs.change_after.Goals as goal
 
 pub overflow_add-c : goal.overflow_add-c
@@ -24,16 +20,6 @@ pub lookup-requires : goal.lookup-requires
 lookup-requires c =
     let p = c.requires in
     (reads_at p.0 c.loop-u.u (omega (arith, p.2, c.loop-u.invariant.above)) c.loop-u-test.true, p.1)
-
-pub returns-then-not-same : goal.returns-then-not-same
-returns-then-not-same c =
-    let a = c.args in
-    let k = c.loop-u in
-    let f = lookup (decode a.l.least a.s.now) a.key in
-    lasts-other a.c f a.v k.u k.invariant
-    (same_false (f a.v) (f k.u)
-    (ap₂ same_as (sym c.requires.4) (sym c.lookup.ensures) ∙ sym c.same.ensures
-    ∙ not-true c.same.result c.if-not-same.true-raw))
 
 pub overflow_add-c-in-loop-u : goal.overflow_add-c-in-loop-u
 overflow_add-c-in-loop-u c = omega (arith, low c.requires.0)
@@ -56,14 +42,21 @@ loop-u-preserved c =
     let k = c.loop-u in
     let f = lookup (decode a.l.least a.s.now) a.key in
     let u = c.answer_until-u-in-loop-u.ensures in
+    let e = same_true c.lookup.result a.was (sym c.eq.ensures ∙ c.if-eq.true) in
     lasts_on a.c f a.v k.u c.answer_until-u-in-loop-u.result k.invariant
-    (same_true (f a.v) (f k.u)
-    (ap₂ same_as (sym c.requires.4) (sym c.lookup.ensures) ∙ sym c.same.ensures
-    ∙ not-false c.same.result c.if-not-same.false-raw))
+    (sym c.lookup.ensures ∙ e ∙ c.requires.4)
     u.above (omega (arith, u.below)) u.still
 
-pub returns : goal.returns
-returns c =
+pub returns-else-eq : goal.returns-else-eq
+returns-else-eq c =
+    let a = c.args in
+    let k = c.loop-u in
+    let f = lookup (decode a.l.least a.s.now) a.key in
+    lasts-other a.c f a.v k.u k.invariant
+    (λ e. same_false c.lookup.result a.was (sym c.eq.ensures ∙ c.if-eq.false) (c.lookup.ensures ∙ e ∙ sym c.requires.4))
+
+pub returns-after-loop-u : goal.returns-after-loop-u
+returns-after-loop-u c =
     let a = c.args in
     let k = c.loop-u in
     lasts-end a.c (lookup (decode a.l.least a.s.now) a.key) a.v k.u k.invariant (omega (arith, c.loop-u-test.false))

@@ -1,23 +1,22 @@
 -- Laws about life/specs/Lived. Assumes nothing.
 use Prim.Native.Nat.{ℕ, ◌^◌, ◌≤◌}
 use native.Mathlib.Omega.{arith}
-use mathlib.Core.Bool.{true, false}
+use Rattle.std.specs.Prelude.{true, false, ◌≢◌, nat_eq, None, Some, Option as Answer}
+use Rattle.std.specs.Option.{option_eq}
+use borrow.Author.Tests.{eqb-true, eqb-false}
 use mathlib.Core.Option.{Option, none, some}
 use mathlib.Core.Path.{◌≡◌, refl, ap, ap₂, sym, ◌∙◌}
-use mathlib.Core.Logic.{◌≢◌}
 use mathlib.Core.List.{List, ◌++◌}
 use lib.Dec.{ltb}
 use lib.ListN.{length}
-use borrow.Author.Tests.{eqb-true, eqb-false}
 use Rattle.model.specs.Basic.{pick}
 use Rattle.model.specs.declared.Limits.{Limits}
 use Rattle.model.specs.declared.Stretch.{Stretch}
-use Rattle.model.specs.declared.Looked.{Looked}
 use Rattle.model.specs.Entry.{alive}
 use Rattle.model.specs.Limits.{Edition}
 use Rattle.model.specs.Layout.{read_header, decode}
 use Rattle.model.specs.Judged.{is_sound}
-use Rattle.model.specs.Calls.{looked_at}
+use Rattle.model.specs.Refusals.{found_in}
 use Rattle.model.specs.Life.{life_of}
 use Rattle.model.specs.Inner.{Lasts}
 use Rattle.model.proofs.reading.Lives.{told_of, rest, rest-step, life-length}
@@ -25,21 +24,22 @@ use Rattle.model.proofs.sound.ByRule.{old-current, upto-last}
 use Rattle.store.proofs.laws.Read.{current-of, oldest-of}
 use Rattle.store.proofs.laws.Sure.{sure}
 use Rattle.walk.specs.Sure.{Walkable}
-use Rattle.life.specs.Lived.{same_as, shown}
+use Rattle.life.specs.Lived.{shown}
 
-pub same_true : (x y : Option ℕ) → same_as (looked_at x) (looked_at y) ≡ true → y ≡ x
-same_true none none h = refl
-same_true none (some y) h = absurd (let z : ◌≡◌ {A = ℕ} 0 1 = cc in omega arith)
-same_true (some x) none h = absurd (let z : ◌≡◌ {A = ℕ} 0 1 = cc in omega arith)
-same_true (some x) (some y) h = ap some (sym (eqb-true x y h))
+-- answers compared
+pub same_true : (x y : Answer ℕ) → option_eq nat_eq x y ≡ true → found_in x ≡ found_in y
+same_true None None h = refl
+same_true None (Some y) h = absurd (let z : ◌≡◌ {A = ℕ} 0 1 = cc in omega arith)
+same_true (Some x) None h = absurd (let z : ◌≡◌ {A = ℕ} 0 1 = cc in omega arith)
+same_true (Some x) (Some y) h = ap some (eqb-true x y h)
 
-pub same_false : (x y : Option ℕ) → same_as (looked_at x) (looked_at y) ≡ false → y ≢ x
-same_false none none h e = let z : ◌≡◌ {A = ℕ} 0 1 = cc in omega arith
-same_false none (some y) h e = let z : ◌≡◌ {A = ℕ} 0 1 = cc in omega arith
-same_false (some x) none h e = let z : ◌≡◌ {A = ℕ} 0 1 = cc in omega arith
-same_false (some x) (some y) h e = eqb-false x y h (let q : x ≡ y = cc in q)
+pub same_false : (x y : Answer ℕ) → option_eq nat_eq x y ≡ false → found_in x ≢ found_in y
+same_false None None h e = let z : ◌≡◌ {A = ℕ} 0 1 = cc in omega arith
+same_false None (Some y) h e = let z : ◌≡◌ {A = ℕ} 0 1 = cc in omega arith
+same_false (Some x) None h e = let z : ◌≡◌ {A = ℕ} 0 1 = cc in omega arith
+same_false (Some x) (Some y) h e = eqb-false x y h (let q : x ≡ y = cc in q)
 
-shown-told : (c v r : ℕ) (o : Option ℕ) → shown v (pick (ltb c r) alive r) (looked_at o) ≡ told_of c v r o
+shown-told : (c v r : ℕ) (o : Option ℕ) → shown v (pick (ltb c r) alive r) o ≡ told_of c v r o
 shown-told c v r none = refl
 shown-told c v r (some x) = refl
 
@@ -77,7 +77,7 @@ module _ {l : Limits} (d : Edition l) (b : List ℕ) (h : is_sound l.least b ≡
   few-stretches old f = omega (arith, life-length (read_header l.least b).current f old, low reads-current)
 
 -- what is told of the versions from v up to r, and the rest behind it
-module _ (c : ℕ) (f : ℕ → Option ℕ) (v r e : ℕ) (answer : Looked) (l : Lasts c f v r) (a : answer ≡ looked_at (f v))
+module _ (c : ℕ) (f : ℕ → Option ℕ) (v r e : ℕ) (answer : Option ℕ) (l : Lasts c f v r) (a : answer ≡ f v)
     (s : e ≡ pick (ltb c r) alive r) where
   pub rest-told : rest c f v ≡ shown v e answer ++ rest c f r
   rest-told = rest-step c f v r l ∙ ap (λ (xs : List Stretch). xs ++ rest c f r) (sym (ap₂ (shown v) s a ∙ shown-told c v r (f v)))

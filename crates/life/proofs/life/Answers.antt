@@ -1,8 +1,8 @@
 -- `life` meets its contract: counted first, then written. Assumes nothing.
+use Rattle.model.proofs.Edition.{edition}
 use Prim.Native.Nat.{ℕ}
 use native.Mathlib.Omega.{arith}
 use mathlib.Core.Path.{ap₂, sym, ◌∙◌}
-use borrow.Author.Rules.{rules}
 use lib.ListN.{length}
 use Rattle.model.specs.Walk.{lookup}
 use Rattle.model.specs.Layout.{read_header, decode}
@@ -20,18 +20,18 @@ pub header-h-requires : goal.header-h-requires
 header-h-requires c =
     let p = c.requires in
     let a = c.args in
-    (p.0, omega (arith, front p.0 a.s.now p.1), few p.0 a.s.now p.1)
+    (omega (arith, front (edition c.args.l) a.s.now p.0), few (edition c.args.l) a.s.now p.0)
 
 pub tell_all-found-requires : goal.tell_all-found-requires
 tell_all-found-requires c =
     let p = c.requires in
     let a = c.args in
     rw c.header-h.ensures (
-      reads-current p.0 a.s.now p.1,
-      p.2,
-      none-room stretches (few-stretches p.0 a.s.now p.1 _ _),
+      reads-current (edition c.args.l) a.s.now p.0,
+      p.1,
+      none-room stretches (few-stretches (edition c.args.l) a.s.now p.0 _ _),
       omega (arith, oldest-of a.l.least a.s.now),
-      old-upto p.0 a.s.now p.1,
+      old-upto (edition c.args.l) a.s.now p.0,
     )
 
 pub overflow_mul-found : goal.overflow_mul-found
@@ -42,7 +42,7 @@ overflow_mul-found c =
     omega (
       arith,
       counted stretches g,
-      few-stretches p.0 a.s.now p.1 (read_header a.l.least a.s.now).oldest
+      few-stretches (edition c.args.l) a.s.now p.0 (read_header a.l.least a.s.now).oldest
           (lookup (decode a.l.least a.s.now) a.key),
     )
 
@@ -61,11 +61,11 @@ tell_all-requires c =
     let a = c.args in
     let g = rw c.header-h.ensures at c.tell_all-found.ensures in
     rw c.header-h.ensures (
-      reads-current p.0 a.s.now p.1,
-      p.2,
-      second-space stretches g c.if-list-found.false (few-stretches p.0 a.s.now p.1 _ _),
+      reads-current (edition c.args.l) a.s.now p.0,
+      p.1,
+      second-space stretches g c.if-list-found.false (few-stretches (edition c.args.l) a.s.now p.0 _ _),
       omega (arith, oldest-of a.l.least a.s.now),
-      old-upto p.0 a.s.now p.1,
+      old-upto (edition c.args.l) a.s.now p.0,
     )
 
 pub returns : goal.returns

@@ -7,7 +7,6 @@ use mathlib.Core.List.{[], ◌∷◌}
 use lib.ListN.{length-set}
 use Rattle.model.proofs.reading.Telling.{write-one, write-not}
 use Rattle.model.specs.Still.{stretches}
-use borrow.Author.Rules.{rules}
 use Rattle.model.specs.Telling.{written}
 use Rattle.life.proofs.put.Goals as goal
 

@@ -1,15 +1,13 @@
 -- `tell_all` meets its contract: what is left is the life from version v on. Assumes nothing.
-use Prim.Native.Nat.{suc, ◌≤◌, ◌-◌}
 use native.Mathlib.Omega.{arith}
 use mathlib.Core.Path.{sym}
-use borrow.Author.Rules.{rules}
 use Rattle.model.specs.Walk.{lookup}
 use Rattle.model.specs.Layout.{decode}
-use Rattle.model.specs.Life.{life_of}
 use Rattle.model.proofs.reading.Lives.{rest, rest-start, rest_end}
-use Rattle.model.proofs.reading.Telling.{Gathering, space-front, gather-start, gather-same, gather-step, gather-end}
+use Rattle.model.proofs.reading.Telling.{space-front, gather-start, gather-same, gather-step, gather-end}
 use Rattle.model.specs.Still.{stretches}
 use Rattle.life.specs.Lived.{shown}
+use Rattle.model.specs.Refusals.{found_in}
 use Rattle.life.proofs.laws.Lived.{reads_at, rest-told}
 use Rattle.life.proofs.tell_all.Goals as goal
 
@@ -38,9 +36,9 @@ tell-found-requires c =
     let k = c.loop-v in
     let f = lookup (decode a.l.least a.s.now) a.key in
     let r = c.change_after-r in
-    let e = rest-told a.c f k.v r.result c.shown_end.result c.lookup-answer.result r.ensures
+    let e = rest-told a.c f k.v r.result c.shown_end.result (found_in c.lookup-answer.result) r.ensures
     c.lookup-answer.ensures c.shown_end.ensures in
-    space-front stretches (shown k.v c.shown_end.result c.lookup-answer.result) (rest a.c f r.result)
+    space-front stretches (shown k.v c.shown_end.result (found_in c.lookup-answer.result)) (rest a.c f r.result)
     (gather-same stretches e k.invariant.2).space
 
 pub loop-v-smaller : goal.loop-v-smaller
@@ -54,15 +52,12 @@ loop-v-preserved c =
     let r = c.change_after-r in
     let x = c.lookup-answer in
     let z = c.shown_end in
-    let e = rest-told a.c f k.v r.result z.result x.result r.ensures x.ensures z.ensures in (
+    let e = rest-told a.c f k.v r.result z.result (found_in x.result) r.ensures x.ensures z.ensures in (
       r.ensures.below,
       omega (arith, k.invariant.1, r.ensures.above),
-      gather-step stretches (shown k.v z.result x.result) (rest a.c f r.result) (gather-same stretches e k.invariant.2) _ _
+      gather-step stretches (shown k.v z.result (found_in x.result)) (rest a.c f r.result) (gather-same stretches e k.invariant.2) _ _
           c.tell-found.ensures,
     )
-
-pub shape_of-list : goal.shape_of-list
-shape_of-list c = c.loop-v.invariant.2.same
 
 pub returns : goal.returns
 returns c =

@@ -1,16 +1,11 @@
 -- `tell_all` meets its contract: what is left is the life from version v on. Assumes nothing.
 use Prim.Native.Nat.{suc, ◌≤◌, ◌-◌}
-use native.Mathlib.Omega.{arith}
-use mathlib.Core.Path.{sym}
-use borrow.Author.Rules.{rules}
 use Rattle.model.specs.Walk.{lookup}
 use Rattle.model.specs.Layout.{decode}
 use Rattle.model.specs.Life.{life_of}
-use Rattle.model.proofs.reading.Lives.{rest, rest-start, rest_end}
-use Rattle.model.proofs.reading.Telling.{Gathering, space-front, gather-start, gather-same, gather-step, gather-end}
+use Rattle.model.proofs.reading.Lives.{rest}
+use Rattle.model.proofs.reading.Telling.{Gathering}
 use Rattle.model.specs.Still.{stretches}
-use Rattle.life.specs.Lived.{shown}
-use Rattle.life.proofs.laws.Lived.{reads_at, rest-told}
 use Rattle.life.proofs.tell_all.Given as goal
 
 abbrev pub invariant-loop-v : goal.invariant-loop-v

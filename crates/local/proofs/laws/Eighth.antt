@@ -6,7 +6,7 @@ use mathlib.Core.List.{List}
 use native.Mathlib.Omega.{arith}
 use lib.Dec.{leb, eqb}
 use lib.ListN.{length}
-use borrow.Author.Tests.{ne_eqb, le-leb, lt-leb}
+use borrow.Author.Tests.{le-leb, lt-leb, leb-true, leb-false}
 use Rattle.model.specs.Basic.{all, those, pick, in_order}
 use Rattle.model.specs.Limits.{live_shown}
 use Rattle.model.specs.Field.{field}
@@ -20,33 +20,21 @@ use Rattle.model.specs.Counted.{counted_page, counted_pages, rule8}
 use Rattle.model.proofs.lists.Lists.{both_true}
 use Rattle.model.proofs.sound.Counted.{those-last}
 use Rattle.page.specs.Head.{read_head}
+use Rattle.page.specs.declared.Head.{Head}
+use Rattle.std.specs.List.{list_all, range_with_len}
 use Rattle.page.proofs.laws.Read.{level-of, entries-of}
 use Rattle.local.specs.Local.{Sized}
 use Rattle.local.proofs.laws.Ruled.{fine, last-low}
 use Rattle.local.specs.Eighth.{count_ok}
 
-pub count-free : (least : ℕ) (p : List ℕ) → (read_head least p).level ≡ 0 → count_ok least p ≡ true
+pub count-is : (least : ℕ) (p : List ℕ) (h : Head) → h ≡ read_head least p → count_ok least p
+    ≡ (eqb h.level 0 || eqb (live_of least p) (length (those lives (read_entries p 128 h.count))))
 unfolding count_ok
-count-free least p e = rw (level-of least p, e)
-
-pub count-used : (least : ℕ) (p : List ℕ) → ((read_head least p).level ≡ 0 → ⊥)
-    → count_ok least p ≡ eqb (live_of least p) (length (those lives (read_entries p 128 (read_head least p).count)))
-unfolding count_ok
-count-used least p e = rw (level-of least p, ne_eqb (read_head least p).level 0 e, entries-of least p)
+count-is least p h is = rw (is, level-of least p, entries-of least p)
 
 -- so many pages from page n on
-unfoldable pub counts_ok : ℕ → List ℕ → ℕ → ℕ → Bool
-counts_ok least s n zero = true
-counts_ok least s n (suc k) = count_ok least (page_of least s n) && counts_ok least s (n + 1) k
-
-pub counts_step : (least : ℕ) (s : List ℕ) (n m : ℕ) → n < m
-    → counts_ok least s n (m - n) ≡ (count_ok least (page_of least s n) && counts_ok least s (n + 1) (m - (n + 1)))
-unfolding counts_ok
-counts_step least s n m h = let e : m - n ≡ suc (m - (n + 1)) = omega arith in rw e
-
-pub counts_end : (least : ℕ) (s : List ℕ) (n m : ℕ) → m ≤ n → counts_ok least s n (m - n) ≡ true
-unfolding counts_ok
-counts_end least s n m h = let e : m - n ≡ 0 = omega arith in rw e
+abbrev pub counts_ok : ℕ → List ℕ → ℕ → ℕ → Bool
+counts_ok least s n k = list_all (λ (i : ℕ). count_ok least (page_of least s i)) (range_with_len n k)
 
 -- ---- no bits for it: nothing to be wrong
 
@@ -59,7 +47,7 @@ unfolding counted_pages
 none-pages least v s n zero h = refl
 none-pages least v s n (suc k) h = rw (none-page least v (page_of least s n) h) (none-pages least v s (n + 1) k h)
 
-pub eighth-none : (least : ℕ) (s : List ℕ) → least ≤ 4 → rule8 least s ≡ true
+eighth-none : (least : ℕ) (s : List ℕ) → least ≤ 4 → rule8 least s ≡ true
 unfolding rule8
 eighth-none least s h = none-pages least (last (decode least s)) s 5 (size_of least s - 5) h
 
@@ -91,12 +79,12 @@ some-page least v size p h low fine = at (is_free q) refl
 some-pages : (least v : ℕ) (s : List ℕ) (n k : ℕ)
     → ((m : ℕ) → n ≤ m → m < n + k → counted_page least v (page_of least s m) ≡ count_ok least (page_of least s m))
     → counted_pages least v s n k ≡ counts_ok least s n k
-unfolding counted_pages counts_ok
+unfolding counted_pages
 some-pages least v s n zero f = refl
 some-pages least v s n (suc k) f =
     rw (f n (omega arith) (omega arith), some-pages least v s (n + 1) k (λ m l h. f m (omega arith) (omega arith)))
 
-pub eighth-some : (least : ℕ) (s : List ℕ) (size : ℕ) → Sized least s size → clean least s ≡ true → 4 < least
+eighth-some : (least : ℕ) (s : List ℕ) (size : ℕ) → Sized least s size → clean least s ≡ true → 4 < least
     → rule8 least s ≡ counts_ok least s 5 (size - 5)
 unfolding rule8
 eighth-some least s size z one h =
@@ -104,3 +92,11 @@ eighth-some least s size z one h =
     some-pages least v s 5 (size_of least s - 5)
     (λ m l k. some-page least v size (page_of least s m) h (last-low least s size z one) (fine least s size z one m (l, omega arith)))
     ∙ ap (λ (n : ℕ). counts_ok least s 5 (n - 5)) z.is
+
+pub eighth-is : (least : ℕ) (s : List ℕ) (size : ℕ) → Sized least s size → clean least s ≡ true
+    → rule8 least s ≡ (leb least 4 || counts_ok least s 5 (size - 5))
+eighth-is least s size z one = at (leb least 4) refl
+  where
+    at : (b : Bool) → leb least 4 ≡ b → rule8 least s ≡ (b || counts_ok least s 5 (size - 5))
+    at true e = eighth-none least s (leb-true least 4 e)
+    at false e = eighth-some least s size z one (leb-false least 4 e)

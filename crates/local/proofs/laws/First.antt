@@ -97,3 +97,9 @@ module _ (least : ℕ) (s : List ℕ) (size : ℕ) (z : Sized least s size) wher
       (rooted size (read_slots s (512 * least) roots)) (clean_pages least s 5 (size - 5))
       (all (page_fine least (last (decode least s)) size) (read_pages least s 5 (size - 5)))
       (λ q. le-leb roots (64 * least) (clean-roots least s q)))
+
+  -- the same of a header that is right, by its fields as they were read
+  pub clean-by : (h : Header) → h ≡ read_header least s → fields_right least s ≡ true
+      → clean least s ≡ (rooted size (read_slots s (512 * least) h.roots) && pages_fine least (last_of h.opened h.current) size s 5 (size - 5))
+  clean-by h e a = rw (e, ← last-is least s) (clean_is ∙ ap (λ (b : Bool). b
+      && (rooted size (read_slots s (512 * least) roots) && pages_fine least (last (decode least s)) size s 5 (size - 5))) a)

@@ -12,20 +12,12 @@ use Rattle.model.specs.Basic.{all, in_order, pick}
 use Rattle.model.specs.Sound.{is_page, first_version}
 use Rattle.model.specs.Layout.{read_slot, read_slots}
 use Rattle.model.specs.Inner.{first_ok, sooner}
-use Rattle.model.proofs.lists.Lists.{both_true}
 use Rattle.model.proofs.lists.Members.{all-implies}
 use Rattle.model.proofs.lists.Rising.{in-order-step, sooner-carries}
 use Rattle.store.proofs.laws.Read.{slots-step, slots_end}
 use Rattle.local.specs.Local.{slots_ok}
 use Rattle.local.specs.First.{rooted}
 use Rattle.local.specs.Front.{slot_fits, above, slots_from}
-
--- it is then no later than top
-pub fits-top : (low top size : ℕ) (x : Slot) → slot_fits low top size x ≡ true → x.version ≤ top
-fits-top low top size x e =
-    leb-true x.version top
-    (both_true (leb x.version top) (is_page size x.root)
-    (both_true (leb low x.version) (leb x.version top && is_page size x.root) e).1).0
 
 module _ (size old last : ℕ) where
   abbrev lowest : ℕ → List Slot → Bool

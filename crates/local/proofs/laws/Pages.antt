@@ -1,33 +1,35 @@
 -- Laws of rule 1 for zero bits, entries and pages, in the order in which the code tests them. Assumes nothing.
 use Prim.Native.Nat.{ℕ, zero, suc, ◌+◌, ◌*◌, ◌-◌, ◌<◌, ◌≤◌, ◌^◌}
-use mathlib.Core.Bool.{Bool, true, false, ◌&&◌, and-true, and_assoc}
+use mathlib.Core.Bool.{Bool, true, false, ◌&&◌, ◌||◌, and-true, and_assoc}
+use mathlib.Core.Logic.{⊎_elim}
 use mathlib.Core.Path.{◌≡◌, refl, ap, sym, ◌∙◌}
 use mathlib.Core.List.{List}
 use native.Mathlib.Omega.{arith}
 use native.Mathlib.Nat.{mul-le-mul_right, one-mul, zero-mul}
 use lib.Pow.{pow_pos}
 use lib.Dec.{leb, eqb}
-use borrow.Author.Tests.{eq-eqb, ne_eqb, lt-leb, le-leb, lt-ltb, leb-true}
+use borrow.Author.Tests.{eq-eqb, ne_eqb, le-leb, leb-true, leb-false}
 use Rattle.bits.proofs.laws.Laws.{field-split}
 use Rattle.model.specs.declared.Entry.{Entry}
 use Rattle.model.specs.Basic.{all, is_empty, in_order, pick}
 use Rattle.model.specs.Entry.{before}
-use Rattle.model.specs.Page.{Page}
-use Rattle.model.specs.Sound.{span_ok, entry_ok, page_fine, is_page}
+use Rattle.model.specs.Sound.{span_ok, entry_ok, page_fine}
 use Rattle.model.specs.Field.{field}
 use Rattle.model.specs.Layout.{page_of, read_entry, read_entries, decode_page, read_pages}
 use Rattle.model.specs.Clean.{zero_from, spare_at, clean_page, clean_pages}
 use Rattle.model.specs.Inner.{first_ok}
 use Rattle.model.proofs.lists.Lists.{both_true}
 use Rattle.model.proofs.lists.Rising.{in-order-step, before-carries}
-use Rattle.model.specs.Limits.{count_bits, live_bits, Edition}
+use Rattle.model.specs.Limits.{Edition}
 use Rattle.model.specs.declared.Limits.{Limits}
-use Rattle.page.proofs.laws.Editions.{count_bits_lem, live-bits, counter-is}
+use Rattle.page.proofs.laws.Editions.{bytes-is, room-is}
 use Rattle.page.specs.Head.{read_head}
-use Rattle.page.specs.Read.{FieldsFit as SizedEntry}
+use Rattle.page.specs.declared.Head.{Head}
+use Rattle.std.specs.List.{list_all, range_with_len}
+use Rattle.model.proofs.lists.Bools.{same?}
 use Rattle.page.proofs.laws.Read.{level-of, start_of, end-of, count-of, entries-of, length-entries, entries-step, entries-end}
-use Rattle.local.specs.Local.{entries_ok, pages_fine}
-use Rattle.local.proofs.laws.Loops.{and-four, all-pages-step, all-pages-end, clean_step}
+use Rattle.local.specs.Local.{entry_test, entries_ok, pages_fine}
+use Rattle.local.proofs.laws.Loops.{and-four}
 
 -- ---- zero bits
 
@@ -53,33 +55,6 @@ level-read : (least : ℕ) (p : List ℕ) → field p 0 4 ≡ (read_head least p
 unfolding read_head
 level-read least p = refl
 
--- where they begin, as the code finds it
-module _ {l : Limits} (d : Edition l) (n : ℕ) where
-  pub spare-free : n ≡ 0 → 44 + l.counter ≡ spare_at l.least n
-  spare-free e = rw (eq-eqb n 0 e) (omega (arith, counter-is d))
-
-  pub spare-none : l.least ≤ 4 → 44 + l.counter ≡ spare_at l.least n
-  spare-none h = at (eqb n 0)
-    where
-      bits : live_bits l.least ≡ 0
-      bits = rw (le-leb l.least 4 h)
-
-      at : (b : Bool) → 44 + l.counter ≡ 44 + count_bits l.least + pick b 0 (live_bits l.least)
-      at true = omega (arith, counter-is d)
-      at false = omega (arith, counter-is d, bits)
-
-  pub spare-six : (n ≡ 0 → ⊥) → 4 < l.least → 50 + l.counter ≡ spare_at l.least n
-  spare-six e h =
-      let bits : live_bits l.least ≡ 6 = rw (lt-leb l.least 4 h) in
-      rw (ne_eqb n 0 e) (omega (arith, counter-is d, bits))
-
-pub spare-most : (least : ℕ) → least ≤ 8 → (n : ℕ) → spare_at least n ≤ 128
-spare-most least eight n = at (eqb n 0)
-  where
-    at : (b : Bool) → 44 + count_bits least + pick b 0 (live_bits least) ≤ 128
-    at true = omega (arith, count_bits_lem least eight)
-    at false = omega (arith, count_bits_lem least eight, live-bits least)
-
 -- ---- entries
 
 module _ (l size level : ℕ) (p : List ℕ) (i n : ℕ) where
@@ -99,24 +74,35 @@ module _ (l size level : ℕ) (p : List ℕ) (i n : ℕ) where
   entries-ok-end h = ap (entries_ok l size level) (entries-end p (128 + 96 * i) i n h)
 
 -- the entry behind e, if there is one
-pub next-none : (p : List ℕ) (e : Entry) (i n : ℕ) → n ≤ i → first_ok before e (read_entries p (128 + 96 * i) (n - i)) ≡ true
-next-none p e i n h = ap (first_ok before e) (entries-end p (128 + 96 * i) i n h)
+pub next-is : (p : List ℕ) (e : Entry) (i n : ℕ) → first_ok before e (read_entries p (128 + 96 * i) (n - i))
+    ≡ (leb n i || before e (read_entry p (128 + 96 * i)))
+next-is p e i n = at (leb n i) refl
+  where
+    at : (b : Bool) → leb n i ≡ b
+        → first_ok before e (read_entries p (128 + 96 * i) (n - i)) ≡ (b || before e (read_entry p (128 + 96 * i)))
+    at true q = ap (first_ok before e) (entries-end p (128 + 96 * i) i n (leb-true n i q))
+    at false q = ap (first_ok before e) (entries-step p i n (leb-false n i q))
 
-pub next-some : (p : List ℕ) (e : Entry) (i n : ℕ) → i < n
-    → first_ok before e (read_entries p (128 + 96 * i) (n - i)) ≡ before e (read_entry p (128 + 96 * i))
-next-some p e i n h = ap (first_ok before e) (entries-step p i n h)
+-- entry i, as it was read
+pub test-is : (l size level : ℕ) (p : List ℕ) (n i : ℕ) (e : Entry) → e ≡ read_entry p (128 + 96 * i) → entry_test l size level p n i
+    ≡ (entry_ok l size level e && (leb n (i + 1) || before e (read_entry p (128 + 96 * (i + 1)))))
+test-is l size level p n i e is =
+    rw is (ap (λ (b : Bool). entry_ok l size level (read_entry p (128 + 96 * i)) && b) (next-is p (read_entry p (128 + 96 * i)) (i + 1) n))
 
--- one entry, whose key and value fit their bits
-module _ (l size level : ℕ) (e : Entry) (z : SizedEntry e) where
-  pub entry-span : span_ok l e.start e.end ≡ false → entry_ok l size level e ≡ false
-  entry-span h = rw h
+-- each is read in turn
+module _ (l size level : ℕ) (p : List ℕ) (n : ℕ) where
+  entries-ok-from : (k i : ℕ) → n - i ≡ k
+      → list_all (entry_test l size level p n) (range_with_len i k) ≡ entries_ok l size level (read_entries p (128 + 96 * i) (n - i))
+  entries-ok-from zero i e = sym (entries-ok-end l size level p i n (omega (arith, e)))
+  entries-ok-from (suc k) i e =
+      let x = read_entry p (128 + 96 * i) in
+      let xs = read_entries p (128 + 96 * (i + 1)) (n - (i + 1)) in
+      ap (λ (b : Bool). entry_test l size level p n i && b) (entries-ok-from k (i + 1) (omega (arith, e)))
+      ∙ and_assoc (entry_ok l size level x) (first_ok before x xs) (entries_ok l size level xs)
+      ∙ sym (entries-ok-step l size level p i n (omega (arith, e)))
 
-  pub entry-leaf : span_ok l e.start e.end ≡ true → level ≡ 1 → entry_ok l size level e ≡ leb 1 e.start
-  entry-leaf h a =
-      rw (h, lt-ltb e.key 16777216 z.key, eq-eqb level 1 a, lt-ltb e.value 4294967296 z.value) (and-true (leb 1 e.start))
-
-  pub entry-index : span_ok l e.start e.end ≡ true → (level ≡ 1 → ⊥) → entry_ok l size level e ≡ is_page size e.value
-  entry-index h a = rw (h, lt-ltb e.key 16777216 z.key, ne_eqb level 1 a)
+  pub entries-ok-all : list_all (entry_test l size level p n) (range_with_len 0 n) ≡ entries_ok l size level (read_entries p 128 n)
+  entries-ok-all = let a : 128 + 96 * 0 ≡ 128 = omega arith in let b : n - 0 ≡ n = omega arith in rw (a, b) at (entries-ok-from n 0 b)
 
 -- ---- one page
 
@@ -148,45 +134,24 @@ module _ (least l size : ℕ) (p : List ℕ) where
       && span_ok l (read_head least p).start (read_head least p).end) (in_order before es)
       (all (entry_ok l size (read_head least p).level) es))
 
-  -- one test after the other
-  module _ (a : (read_head least p).level ≡ 0) where
-    pub fine-start : ((read_head least p).start ≡ 0 → ⊥) → page_fine least l size (decode_page least p) ≡ false
-    fine-start b = fine-free a ∙ rw (ne_eqb (read_head least p).start 0 b)
+  -- of a page that has no more entries than room, in the order in which the code tests it
+  pub fine-is : (h : Head) → h ≡ read_head least p → (read_head least p).count ≤ 5 * least → page_fine least l size (decode_page least p)
+      ≡ pick (eqb h.level 0) (eqb h.start 0 && eqb h.end 0 && eqb h.count 0)
+      (leb h.level 7 && span_ok l h.start h.end && entries_ok l size h.level (read_entries p 128 h.count))
+  fine-is h is c = ⊎_elim
+      (λ a. rw (is, eq-eqb (read_head least p).level 0 a) (fine-free a))
+      (λ a. rw (is, ne_eqb (read_head least p).level 0 a)
+      (fine-used a ∙ rw (le-leb (read_head least p).count (5 * least) c, and-true (leb (read_head least p).level 7))))
+      (same? (read_head least p).level 0)
 
-    pub fine_end : (read_head least p).start ≡ 0 → ((read_head least p).end ≡ 0 → ⊥) → page_fine least l size (decode_page least p) ≡ false
-    fine_end b c = fine-free a ∙ rw (eq-eqb (read_head least p).start 0 b, ne_eqb (read_head least p).end 0 c)
-
-    pub fine-count : (read_head least p).start ≡ 0 → (read_head least p).end ≡ 0
-        → page_fine least l size (decode_page least p) ≡ eqb (read_head least p).count 0
-    fine-count b c = fine-free a ∙ rw (eq-eqb (read_head least p).start 0 b, eq-eqb (read_head least p).end 0 c)
-
-  module _ (a : (read_head least p).level ≡ 0 → ⊥) where
-    pub fine-level : 7 < (read_head least p).level → page_fine least l size (decode_page least p) ≡ false
-    fine-level b = fine-used a ∙ rw (lt-leb (read_head least p).level 7 b)
-
-    pub fine-span : (read_head least p).level ≤ 7 → (read_head least p).count ≤ 5 * least
-        → span_ok l (read_head least p).start (read_head least p).end ≡ false → page_fine least l size (decode_page least p) ≡ false
-    fine-span b c d = fine-used a ∙ rw (le-leb (read_head least p).level 7 b, le-leb (read_head least p).count (5 * least) c, d)
-
-    pub fine-entries : (read_head least p).level ≤ 7 → (read_head least p).count ≤ 5 * least
-        → span_ok l (read_head least p).start (read_head least p).end ≡ true
-        → page_fine least l size (decode_page least p)
-        ≡ entries_ok l size (read_head least p).level (read_entries p 128 (read_head least p).count)
-    fine-entries b c d = fine-used a ∙ rw (le-leb (read_head least p).level 7 b, le-leb (read_head least p).count (5 * least) c, d)
-
-  pub clean-room : 5 * least < (read_head least p).count → clean_page least p ≡ false
-  unfolding clean_page
-  clean-room h = rw (count-of least p, lt-leb (read_head least p).count (5 * least) h)
-
-  module _ (h : (read_head least p).count ≤ 5 * least) where
-    pub clean-spare : zero_from p (spare_at least (read_head least p).level) 128 ≡ false → clean_page least p ≡ false
-    unfolding clean_page
-    clean-spare e = rw (count-of least p, level-read least p, le-leb (read_head least p).count (5 * least) h, e)
-
-    pub clean-rest : zero_from p (spare_at least (read_head least p).level) 128 ≡ true
-        → clean_page least p ≡ zero_from p (128 + 96 * (read_head least p).count) (512 * least)
-    unfolding clean_page
-    clean-rest e = rw (count-of least p, level-read least p, le-leb (read_head least p).count (5 * least) h, e)
+pub clean-is : {l : Limits} → Edition l → (p : List ℕ) (h : Head) → h ≡ read_head l.least p → clean_page l.least p
+    ≡ (leb h.count l.room && zero_from p (spare_at l.least h.level) 128 && zero_from p (128 + 96 * h.count) (8 * l.bytes))
+unfolding clean_page
+clean-is {l} d p h is =
+    let e : 8 * l.bytes ≡ 512 * l.least = omega (arith, bytes-is d) in
+    rw (is, room-is d, e, count-of l.least p, level-read l.least p)
+    (sym (and_assoc (leb (read_head l.least p).count (5 * l.least)) (zero_from p (spare_at l.least (read_head l.least p).level) 128)
+    (zero_from p (128 + 96 * (read_head l.least p).count) (512 * l.least))))
 
 pub clean-count : (least : ℕ) (p : List ℕ) → clean_page least p ≡ true → (read_head least p).count ≤ 5 * least
 unfolding clean_page
@@ -198,28 +163,22 @@ clean-count least p e =
 
 -- ---- all pages
 
-four : (a b c d : Bool) → ((a && b) && (c && d)) ≡ (a && (c && (b && d)))
+four : (a b c d : Bool) → ((a && b) && (c && d)) ≡ ((a && c) && (b && d))
 four true true true d = refl
 four true true false d = refl
 four true false true d = refl
 four true false false d = refl
 four false b c d = refl
 
-module _ (least l size : ℕ) (s : List ℕ) (n m : ℕ) where
-  pub pages-fine-step : n < m
-      → pages_fine least l size s n (m - n)
-      ≡ (clean_page least (page_of least s n)
-      && (page_fine least l size (decode_page least (page_of least s n)) && pages_fine least l size s (n + 1) (m - (n + 1))))
-  unfolding pages_fine
-  pages-fine-step h =
-      let ps : List Page = read_pages least s (n + 1) (m - (n + 1)) in
-      let p : Page = decode_page least (page_of least s n) in
-      ap (λ (b : Bool). b && all (page_fine least l size) (read_pages least s n (m - n))) (clean_step least s n m h)
-      ∙ ap (λ (b : Bool). (clean_page least (page_of least s n) && clean_pages least s (n + 1) (m - (n + 1))) && b)
-      (all-pages-step least s (page_fine least l size) n m h)
-      ∙ four (clean_page least (page_of least s n)) (clean_pages least s (n + 1) (m - (n + 1))) (page_fine least l size p)
-      (all (page_fine least l size) ps)
+-- each is read in turn
+module _ (least l size : ℕ) (s : List ℕ) where
+  abbrev pub page_test : ℕ → Bool
+  page_test n = clean_page least (page_of least s n) && page_fine least l size (decode_page least (page_of least s n))
 
-  pub pages-fine-end : m ≤ n → pages_fine least l size s n (m - n) ≡ true
-  unfolding pages_fine clean_pages
-  pages-fine-end h = let e : m - n ≡ 0 = omega arith in rw (all-pages-end least s (page_fine least l size) n m h, e)
+  pub pages-fine-all : (n k : ℕ) → list_all page_test (range_with_len n k) ≡ pages_fine least l size s n k
+  unfolding pages_fine clean_pages read_pages
+  pages-fine-all n zero = refl
+  pages-fine-all n (suc k) =
+      ap (λ (b : Bool). page_test n && b) (pages-fine-all (n + 1) k)
+      ∙ sym (four (clean_page least (page_of least s n)) (clean_pages least s (n + 1) k)
+      (page_fine least l size (decode_page least (page_of least s n))) (all (page_fine least l size) (read_pages least s (n + 1) k)))

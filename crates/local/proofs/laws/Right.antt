@@ -1,18 +1,24 @@
 -- Laws about local/specs/Right. Assumes nothing.
-use Prim.Native.Nat.{ℕ, ◌+◌, ◌*◌, ◌<◌, ◌≤◌}
+use Prim.Native.Nat.{ℕ, zero, suc, ◌+◌, ◌*◌, ◌<◌, ◌≤◌}
 use mathlib.Core.Bool.{Bool, true, false, ◌&&◌, and_assoc, and-false, and-true}
-use mathlib.Core.Path.{◌≡◌, ap, sym, ◌∙◌}
+use mathlib.Core.Path.{◌≡◌, refl, ap, sym, ◌∙◌}
 use mathlib.Core.List.{List}
 use native.Mathlib.Omega.{arith}
-use lib.Dec.{leb, eqb}
+use lib.Dec.{leb, ltb, eqb}
 use lib.ListN.{length, get_or-eq_default}
-use borrow.Author.Tests.{eq-eqb, ne_eqb, lt-leb, le-leb}
+use borrow.Author.Tests.{eq-eqb, ne_eqb, lt-ltb}
+use mathlib.Core.Logic.{⊎_elim}
 use Rattle.model.specs.Basic.{all, pick}
-use Rattle.model.specs.Limits.{root_bits, oldest_bits}
+use Rattle.model.specs.Limits.{Edition, root_bits, oldest_bits}
+use Rattle.model.specs.declared.Limits.{Limits}
+use Rattle.model.specs.declared.Header.{Header}
+use Rattle.model.proofs.lists.Bools.{same?}
+use Rattle.page.proofs.laws.Editions.{bytes-is, slots-is}
+use Rattle.local.specs.Second.{begun, newer}
 use Rattle.model.specs.Page.{free, is_free}
 use Rattle.model.specs.Store.{page, last}
 use Rattle.model.specs.Sound.{is_page, page_ok, page_fine, rule2}
-use Rattle.model.specs.Layout.{page_of, decode_page, read_header, read_slots, decode, size_of}
+use Rattle.model.specs.Layout.{page_of, decode_page, read_header, read_slots, decode}
 use Rattle.model.specs.Clean.{zero_from, clean_page, clean_front}
 use Rattle.model.specs.declared.Slot.{Slot}
 use Rattle.model.proofs.lists.Lists.{both_true}
@@ -31,34 +37,6 @@ module _ (least : ℕ) (s : List ℕ) (size : ℕ) (z : Sized least s size) wher
   abbrev roots : ℕ
   roots = (read_header least s).roots
 
-  abbrev spare : Bool
-  spare = zero_from s (74 + root_bits least + oldest_bits least) (512 * least)
-
-  abbrev rest : Bool
-  rest = zero_from s (512 * least + 32 * roots) (2560 * least)
-
-  -- ---- the header
-
-  pub head-pages : ((read_header least s).pages ≡ size → ⊥) → clean_front least s ≡ false
-  unfolding clean_front
-  head-pages a = rw (ne_eqb (read_header least s).pages (size_of least s) (λ e. a (e ∙ z.is)))
-
-  module _ (a : (read_header least s).pages ≡ size) where
-    counted : eqb (read_header least s).pages (size_of least s) ≡ true
-    counted = eq-eqb (read_header least s).pages (size_of least s) (a ∙ sym z.is)
-
-    pub head-spare : spare ≡ false → clean_front least s ≡ false
-    unfolding clean_front
-    head-spare b = rw (counted, b)
-
-    pub head-roots : spare ≡ true → 64 * least < roots → clean_front least s ≡ false
-    unfolding clean_front
-    head-roots b c = rw (counted, b, lt-leb roots (64 * least) c)
-
-    pub head-rest : spare ≡ true → roots ≤ 64 * least → clean_front least s ≡ rest
-    unfolding clean_front
-    head-rest b c = rw (counted, b, le-leb roots (64 * least) c)
-
   -- ---- header and slots
 
   front-is : front_right least s ≡ (fields_right least s && (rooted size (read_slots s (512 * least) roots) && rule2 (decode least s)))
@@ -70,18 +48,20 @@ module _ (least : ℕ) (s : List ℕ) (size : ℕ) (z : Sized least s size) wher
   pub front-wrong : fields_right least s ≡ false → front_right least s ≡ false
   front-wrong a = front-is ∙ rw a
 
-  module _ (a : fields_right least s ≡ true) where
-    pub front-none : roots ≡ 0 → front_right least s ≡ false
-    front-none c = front-is ∙ rw (a, rule2-is least s, two_none least s c) (and-false (rooted size (read_slots s (512 * least) roots)))
+  pub front-slots : (h : Header) → h ≡ read_header least s → fields_right least s ≡ true → (top : ℕ) → top ≡ last (decode least s)
+      → front_right least s ≡ (ltb 0 h.roots && slots_from size h.oldest top 0 h.oldest (read_slots s (512 * least) h.roots))
+  front-slots h e a top f = rw (e, f) (front-is ∙ rw (a, rule2-is least s) (at roots refl))
+    where
+      old : ℕ
+      old = (read_header least s).oldest
 
-    pub front-slots : (n o top : ℕ) → n ≡ roots → o ≡ (read_header least s).oldest → top ≡ last (decode least s) → 0 < n
-        → front_right least s ≡ slots_from size o top 0 o (read_slots s (512 * least) n)
-    front-slots n o top e g f h =
-        let old : (read_header least s).oldest ≤ last (decode least s) = omega (arith, fields least s a, oldest-of least s) in
-        rw (e, g, f)
-        (front-is ∙ rw (a, rule2-is least s)
-        (sym (slots-all size (read_header least s).oldest (last (decode least s)) old (read_slots s (512 * least) roots)
-        (some-slots s (512 * least) roots (rw e at h)))))
+      at : (n : ℕ) → roots ≡ n
+          → (rooted size (read_slots s (512 * least) roots) && (begun least s && newer least s))
+          ≡ (ltb 0 n && slots_from size old (last (decode least s)) 0 old (read_slots s (512 * least) roots))
+      at zero q = rw (two_none least s q) (and-false (rooted size (read_slots s (512 * least) roots)))
+      at (suc n) q =
+          rw (lt-ltb 0 (suc n) (omega arith)) (sym (slots-all size old (last (decode least s)) (omega (arith, fields least s a, oldest-of least s))
+          (read_slots s (512 * least) roots) (some-slots s (512 * least) roots (omega (arith, q)))))
 
   -- ---- one page
 
@@ -108,32 +88,51 @@ module _ (least : ℕ) (s : List ℕ) (size : ℕ) (z : Sized least s size) wher
     page-far a = none (far-free n a)
 
     module _ (a : 5 ≤ n) (b : n < size) where
-      right_is_lem : page_right least s level n
+      right_tests : page_right least s level n
           ≡ (clean_page least p && (page_ok least (last (decode least s)) size (decode_page least p) && eqb (read_head least p).level level))
       unfolding page_right
-      right_is_lem =
+      right_tests =
           rw (page-at least s n a (omega (arith, z.is)), count-pages least s (omega (arith, z.is, z.low)), z.is, level-of least p)
 
-      pub page-other : ((read_head least p).level ≡ level → ⊥) → page_right least s level n ≡ false
-      page-other c =
-          right_is_lem ∙ rw (ne_eqb (read_head least p).level level c)
+      pub right-is : page_right least s level n
+          ≡ (eqb (read_head least p).level level
+          && (clean_page least p && page_fine least (last (decode least s)) size (decode_page least p)))
+      right-is =
+          right_tests ∙ ⊎_elim here (λ e. rw (ne_eqb (read_head least p).level level e)
           (ap (λ (x : Bool). clean_page least p && x) (and-false (page_ok least (last (decode least s)) size (decode_page least p)))
-          ∙ and-false (clean_page least p))
-
-      pub page-clean : clean_page least p ≡ false → page_right least s level n ≡ false
-      page-clean c = right_is_lem ∙ rw c
-
-      pub page-rest : (read_head least p).level ≡ level → clean_page least p ≡ true
-          → page_right least s level n ≡ page_fine least (last (decode least s)) size (decode_page least p)
-      page-rest c d =
-          right_is_lem ∙ rw (d, eq-eqb (read_head least p).level level c)
-          (and-true (page_ok least (last (decode least s)) size (decode_page least p)) ∙ sym used)
+          ∙ and-false (clean_page least p))) (same? (read_head least p).level level)
         where
-          used : page_fine least (last (decode least s)) size (decode_page least p)
+          used : (read_head least p).level ≡ level → page_fine least (last (decode least s)) size (decode_page least p)
               ≡ page_ok least (last (decode least s)) size (decode_page least p)
-          used =
-              let q : is_free (decode_page least p) ≡ false = rw (level-of least p) (ne_eqb (read_head least p).level 0 (λ e. omega arith)) in
+          used e =
+              let q : is_free (decode_page least p) ≡ false = rw (level-of least p) (ne_eqb (read_head least p).level 0 (λ f. omega arith)) in
               rw q
+
+          here : (read_head least p).level ≡ level
+              → (clean_page least p && (page_ok least (last (decode least s)) size (decode_page least p)
+              && eqb (read_head least p).level level))
+              ≡ (eqb (read_head least p).level level
+              && (clean_page least p && page_fine least (last (decode least s)) size (decode_page least p)))
+          here e =
+              rw (eq-eqb (read_head least p).level level e, used e)
+              (ap (λ (x : Bool). clean_page least p && x) (and-true (page_ok least (last (decode least s)) size (decode_page least p))))
+
+-- the header, by its fields as they were read
+pub header-is : {l : Limits} → Edition l → (s : List ℕ) (size : ℕ) → Sized l.least s size → (h : Header) → h ≡ read_header l.least s
+    → clean_front l.least s ≡ (eqb h.pages size && zero_from s (74 + root_bits l.least + oldest_bits l.least) (8 * l.bytes)
+    && leb h.roots l.slots && zero_from s (8 * l.bytes + 32 * h.roots) (5 * (8 * l.bytes)))
+unfolding clean_front
+header-is {l} d s size z h e =
+    let f : 5 * (8 * l.bytes) ≡ 2560 * l.least = omega (arith, bytes-is d) in
+    let g : 8 * l.bytes ≡ 512 * l.least = omega (arith, bytes-is d) in
+    rw (e, f, g, slots-is d, z.is)
+    (sym (four (eqb (read_header l.least s).pages size) (zero_from s (74 + root_bits l.least + oldest_bits l.least) (512 * l.least))
+    (leb (read_header l.least s).roots (64 * l.least)) (zero_from s (512 * l.least + 32 * (read_header l.least s).roots) (2560 * l.least))))
+  where
+    four : (a b c d : Bool) → (a && b && c && d) ≡ (a && (b && (c && d)))
+    four true true c d = refl
+    four true false c d = refl
+    four false b c d = refl
 
 -- a front that is right has its header so
 pub front-true : (least : ℕ) (s : List ℕ) → front_right least s ≡ true → clean_front least s ≡ true

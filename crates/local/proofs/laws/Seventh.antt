@@ -1,10 +1,9 @@
 -- Laws about local/specs/Seventh. Assumes nothing.
 use Prim.Native.Nat.{ℕ, suc, ◌-◌}
 use mathlib.Core.Bool.{Bool, true, false, ◌||◌, not}
-use mathlib.Core.Path.{◌≡◌, ap, sym, ◌∙◌}
+use mathlib.Core.Path.{◌≡◌, refl, ap, sym, ◌∙◌}
 use mathlib.Core.List.{List}
 use lib.Dec.{eqb}
-use borrow.Author.Tests.{eq-eqb, ne_eqb}
 use Rattle.model.specs.Basic.{all}
 use Rattle.model.specs.declared.Header.{Header}
 use Rattle.model.specs.Store.{last_of}
@@ -16,35 +15,25 @@ use Rattle.local.specs.Local.{head_at, level_at, count_at}
 use Rattle.local.specs.Seventh.{is_young, young_ok}
 
 module _ (least : ℕ) (s : List ℕ) (n w : ℕ) where
-  young-is : young_ok w (decode_page least (page_of least s n))
+  pub young-is : young_ok w (decode_page least (page_of least s n))
       ≡ (eqb (level_at least s n) 0
       || (not (eqb (head_at least s n).start w) || all (is_young w) (read_entries (page_of least s n) 128 (count_at least s n))))
   unfolding young_ok
   young-is = rw (level-of least (page_of least s n), start_of least (page_of least s n), entries-of least (page_of least s n))
 
-  pub young-free : level_at least s n ≡ 0 → young_ok w (decode_page least (page_of least s n)) ≡ true
-  young-free e = young-is ∙ rw (eq-eqb (level_at least s n) 0 e)
-
-  module _ (u : level_at least s n ≡ 0 → ⊥) where
-    pub young-other : ((head_at least s n).start ≡ w → ⊥) → young_ok w (decode_page least (page_of least s n)) ≡ true
-    young-other e = young-is ∙ rw (ne_eqb (level_at least s n) 0 u, ne_eqb (head_at least s n).start w e)
-
-    pub young-here : (head_at least s n).start ≡ w → young_ok w (decode_page least (page_of least s n))
-        ≡ all (is_young w) (read_entries (page_of least s n) 128 (count_at least s n))
-    young-here e = young-is ∙ rw (ne_eqb (level_at least s n) 0 u, eq-eqb (head_at least s n).start w e)
-
 module _ (least : ℕ) (s : List ℕ) (h : Header) (is : h ≡ read_header least s) where
   opened-is : (decode least s).opened ≡ h.opened
   opened-is = opened_of least s ∙ ap (λ (x : Header). x.opened) (sym is)
 
-  pub seven-shut : h.opened ≡ false → rule7 (decode least s) ≡ true
-  unfolding rule7
-  seven-shut o = rw (opened-is, o)
-
-  pub seven-open : (w : ℕ) → h.opened ≡ true → w ≡ last_of h.opened h.current
-      → rule7 (decode least s) ≡ all (young_ok w) (read_pages least s 5 (size_of least s - 5))
+  pub seven-is : (w : ℕ) → w ≡ last_of h.opened h.current
+      → rule7 (decode least s) ≡ (not h.opened || all (young_ok w) (read_pages least s 5 (size_of least s - 5)))
   unfolding rule7 young_ok
-  seven-open w o e =
-      let next : suc (decode least s).current ≡ w = ap suc (current-of least s ∙ ap (λ (x : Header). x.current) (sym is))
-      ∙ sym (e ∙ ap (λ (b : Bool). last_of b h.current) o) in
-      rw (opened-is, o, behind least s, next)
+  seven-is w e = rw (opened-is, behind least s) (at h.opened refl)
+    where
+      at : (b : Bool) → h.opened ≡ b
+          → (not b || all (young_ok (suc (decode least s).current)) (read_pages least s 5 (size_of least s - 5)))
+          ≡ (not b || all (young_ok w) (read_pages least s 5 (size_of least s - 5)))
+      at false o = refl
+      at true o =
+          ap (λ (n : ℕ). all (young_ok n) (read_pages least s 5 (size_of least s - 5)))
+          (ap suc (current-of least s ∙ ap (λ (x : Header). x.current) (sym is)) ∙ sym (e ∙ ap (λ (b : Bool). last_of b h.current) o))

@@ -33,9 +33,9 @@ module _ (least : ℕ) (four : 4 ≤ least) (s : List ℕ) where
 
 module _ {l : Limits} (d : Edition l) where
   pub part-asks : (s : List ℕ) (n : ℕ) → n < size_of l.least s → length s ≤ 2 ^ 21
-      → Edition l × (n * (64 * l.least) + 64 * l.least ≤ length s) × (length s ≤ 2 ^ 40)
-  part-asks s n h long = (d, part-fits l.least d.four s n h, omega arith)
+      → (n * (64 * l.least) + 64 * l.least ≤ length s) × (length s ≤ 2 ^ 40)
+  part-asks s n h long = (part-fits l.least d.four s n h, omega arith)
 
   -- a page's part, whose front is read
-  pub head-asks : (p : List ℕ) → length p ≡ 64 * l.least → Edition l × (16 ≤ length p) × (length p ≤ 2 ^ 40)
-  head-asks p e = (d, omega (arith, d.four), omega (arith, d.eight))
+  pub head-asks : (p : List ℕ) → length p ≡ 64 * l.least → (16 ≤ length p) × (length p ≤ 2 ^ 40)
+  head-asks p e = (omega (arith, d.four), omega (arith, d.eight))

@@ -1,11 +1,11 @@
 -- Laws of rule 3, in the order in which the code tests it. Assumes nothing.
 use Prim.Native.Nat.{ℕ, ◌+◌, ◌*◌, ◌-◌}
-use mathlib.Core.Bool.{Bool, true, false, ◌&&◌, ◌||◌, not}
-use mathlib.Core.Path.{◌≡◌, ap, ap₂, ◌∙◌}
+use mathlib.Core.Bool.{Bool, true, false, ◌&&◌, ◌||◌, not, and-true, and_assoc}
+use mathlib.Core.Path.{◌≡◌, refl, ap, ap₂, sym, ◌∙◌}
 use mathlib.Core.List.{List}
 use native.Mathlib.Numerals.{add-one}
 use lib.Dec.{leb, eqb}
-use borrow.Author.Tests.{eq-eqb, ne_eqb, eqb-true}
+use borrow.Author.Tests.{ne_eqb, eqb-true}
 use Rattle.model.specs.declared.Entry.{Entry}
 use Rattle.model.specs.declared.Slot.{Slot}
 use Rattle.model.specs.Basic.{all}
@@ -13,6 +13,7 @@ use Rattle.model.specs.Sound.{rule3}
 use Rattle.model.specs.Layout.{page_of, read_entries, decode_page, read_header, read_slots, read_pages, decode, size_of}
 use Rattle.model.proofs.lists.Lists.{both_true}
 use Rattle.page.specs.declared.Head.{Head}
+use Rattle.page.specs.Head.{read_head}
 use Rattle.page.proofs.laws.Read.{level-of, start_of, end-of, entries-of}
 use Rattle.store.proofs.laws.Read.{page-at, behind, slots-of, oldest-of}
 use Rattle.local.specs.Local.{IsPage, head_at, level_at, count_at, link_full, link_ok, lies, links_ok, root_used}
@@ -40,42 +41,30 @@ module _ (least : ℕ) (s : List ℕ) (n : ℕ) (e : Entry) where
   abbrev pub skips : Bool
   skips = not (eqb (level_at least s n) 1) && leb e.end (read_header least s).oldest
 
-  pub link-out : skips ≡ true → link_ok (decode least s) (decode_page least (page_of least s n)) e ≡ true
-  link-out z = rw (oldest-of least s, level-of least (page_of least s n), z)
+  pub link-ok-is : (h : Head) → h ≡ head_at least s n → (o : ℕ) → o ≡ (read_header least s).oldest
+      → link_ok (decode least s) (decode_page least (page_of least s n)) e
+      ≡ ((not (eqb h.level 1) && leb e.end o) || link_full (decode least s) (decode_page least (page_of least s n)) e)
+  link-ok-is h is o was =
+      ap₂ (λ (x y : ℕ). (not (eqb x 1) && leb e.end y) || link_full (decode least s) (decode_page least (page_of least s n)) e)
+      (level-of least (page_of least s n) ∙ ap (λ (x : Head). x.level) (sym is)) (oldest-of least s ∙ sym was)
 
   pub link-kept : skips ≡ false → link_ok (decode least s) (decode_page least (page_of least s n)) e
       ≡ link_full (decode least s) (decode_page least (page_of least s n)) e
-  link-kept z =
-      let p = decode_page least (page_of least s n) in
-      ap₂ (λ (x y : ℕ). (not (eqb x 1) && leb e.end y) || link_full (decode least s) p e) (level-of least (page_of least s n))
-      (oldest-of least s)
-      ∙ ap (λ (b : Bool). b || link_full (decode least s) p e) z
+  link-kept z = link-ok-is (head_at least s n) refl (read_header least s).oldest refl ∙ ap (λ (b : Bool). b || link_full (decode least s) (decode_page least (page_of least s n)) e) z
 
-  -- one test after the other
-  pub link-own : lies (head_at least s n) e ≡ false → link_full (decode least s) (decode_page least (page_of least s n)) e ≡ false
-  link-own a = rw (start_of least (page_of least s n), end-of least (page_of least s n), a)
-
-  module _ (a : lies (head_at least s n) e ≡ true) where
-    pub link-leaf : level_at least s n ≡ 1 → link_full (decode least s) (decode_page least (page_of least s n)) e ≡ true
+  -- a leaf's entry, and a router, by the page's front
+  module _ (h : Head) (is : h ≡ head_at least s n) where
+    pub link-leaf : h.level ≡ 1 → link_full (decode least s) (decode_page least (page_of least s n)) e ≡ lies h e
     link-leaf d =
-        rw (
-          start_of least (page_of least s n),
-          end-of least (page_of least s n),
-          level-of least (page_of least s n),
-          a,
-          eq-eqb (level_at least s n) 1 d,
-        )
+        rw (start_of least (page_of least s n), end-of least (page_of least s n), level-of least (page_of least s n), ← is, d)
+        (and-true (lies h e))
 
-    module _ (d : level_at least s n ≡ 1 → ⊥) (h : IsPage least s e.value) where
-      pub link-child : lies (head_at least s e.value) e ≡ false
-          → link_full (decode least s) (decode_page least (page_of least s n)) e ≡ false
-      unfolding link_by
-      link-child b = link-is h ∙ rw (a, ne_eqb (level_at least s n) 1 d, b)
-
-      pub link-level : lies (head_at least s e.value) e ≡ true
-          → link_full (decode least s) (decode_page least (page_of least s n)) e ≡ eqb (level_at least s e.value + 1) (level_at least s n)
-      unfolding link_by
-      link-level b = link-is h ∙ rw (a, ne_eqb (level_at least s n) 1 d, b)
+    pub link-router : (h.level ≡ 1 → ⊥) → IsPage least s e.value → link_full (decode least s) (decode_page least (page_of least s n)) e
+        ≡ (lies h e && lies (head_at least s e.value) e && eqb ((head_at least s e.value).level + 1) h.level)
+    unfolding link_by
+    link-router d k =
+        link-is k ∙ rw (← is, ne_eqb h.level 1 d)
+        (sym (and_assoc (lies h e) (lies (head_at least s e.value) e) (eqb ((head_at least s e.value).level + 1) h.level)))
 
 -- "the child is one level lower"
 pub by-lower : (h c : Head) (e : Entry) → (h.level ≡ 1 → ⊥) → link_by h c e ≡ true → c.level + 1 ≡ h.level
@@ -88,19 +77,21 @@ by-lower h c e d t =
 -- ---- page n
 
 module _ (least : ℕ) (s : List ℕ) (n : ℕ) where
-  pub links-free : level_at least s n ≡ 0 → links_ok (decode least s) (decode_page least (page_of least s n)) ≡ true
+  -- by its part p of the store and that part's front
+  pub links-is : (p : List ℕ) → p ≡ page_of least s n → (h : Head) → h ≡ read_head least p
+      → links_ok (decode least s) (decode_page least (page_of least s n))
+      ≡ (eqb h.level 0 || all (link_ok (decode least s) (decode_page least (page_of least s n))) (read_entries p 128 h.count))
   unfolding links_ok
-  links-free e = rw (level-of least (page_of least s n), eq-eqb (level_at least s n) 0 e)
+  links-is p e h is =
+      let f : Entry → Bool = link_ok (decode least s) (decode_page least (page_of least s n)) in
+      rw (is, e)
+      (ap (λ (x : ℕ). eqb x 0 || all f (decode_page least (page_of least s n)).entries) (level-of least (page_of least s n))
+      ∙ ap (λ (es : List Entry). eqb (level_at least s n) 0 || all f es) (entries-of least (page_of least s n)))
 
   pub links-used : (level_at least s n ≡ 0 → ⊥)
       → links_ok (decode least s) (decode_page least (page_of least s n))
       ≡ all (link_ok (decode least s) (decode_page least (page_of least s n))) (read_entries (page_of least s n) 128 (count_at least s n))
-  unfolding links_ok
-  links-used e =
-      let f : Entry → Bool = link_ok (decode least s) (decode_page least (page_of least s n)) in
-      ap (λ (x : ℕ). eqb x 0 || all f (decode_page least (page_of least s n)).entries) (level-of least (page_of least s n))
-      ∙ ap (λ (b : Bool). b || all f (decode_page least (page_of least s n)).entries) (ne_eqb (level_at least s n) 0 e)
-      ∙ ap (all f) (entries-of least (page_of least s n))
+  links-used e = links-is (page_of least s n) refl (head_at least s n) refl ∙ rw (ne_eqb (level_at least s n) 0 e)
 
 -- ---- the rule
 

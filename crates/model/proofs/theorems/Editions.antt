@@ -17,10 +17,10 @@ use Rattle.model.specs.Field.{field}
 use Rattle.model.specs.Layout.{size_of}
 use Rattle.model.specs.Judged.{length_ok, magic_ok, edition_ok, judged, verdict}
 use Rattle.model.specs.Editions.{by_edition, lent_number, least_of}
-use Rattle.model.specs.declared.Looked.{Looked}
-use Rattle.model.specs.declared.Looked.TheVariants.{Refused}
-use Rattle.model.specs.declared.Verdict.{Verdict}
-use Rattle.model.specs.declared.State.{State}
+use Rattle.model.specs.Looked.{Looked}
+use Rattle.model.specs.Looked.{Refused}
+use Rattle.model.specs.Verdict.{Verdict}
+use Rattle.model.specs.State.{State}
 use Rattle.model.specs.State.{untold}
 use Rattle.model.specs.Lent
 use Rattle.model.specs.Any

@@ -11,9 +11,9 @@ use lib.Dec.{leb, ltb}
 use lib.ListN.{length}
 use Rattle.model.specs.Basic.{pick}
 use Rattle.model.specs.declared.Pair.{Pair}
-use Rattle.model.specs.declared.Looked.{Looked}
-use Rattle.model.specs.declared.Looked.TheVariants.{Value, Absent, Refused}
-use Rattle.model.specs.declared.Verdict.{Verdict}
+use Rattle.model.specs.Looked.{Looked}
+use Rattle.model.specs.Looked.{Value, Absent, Refused}
+use Rattle.model.specs.Verdict.{Verdict}
 use Rattle.model.specs.Store.{Store, next, fresh}
 use Rattle.model.specs.Walk.{settings}
 use Rattle.model.specs.Layout.{bit, size_of, encode, decode}

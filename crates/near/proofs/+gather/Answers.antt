@@ -16,7 +16,7 @@ pub part-p-requires : goal.part-p-requires
 part-p-requires t c =
     let r = c.requires.0 in
     let a = c.args in
-    (r.edition, (here-inside r a.q.version a.q.high a.up a.n a.at c.requires.1).part, r.few)
+    ((here-inside r a.q.version a.q.high a.up a.n a.at c.requires.1).part, r.few)
 
 pub head_of-h-requires : goal.head_of-h-requires
 head_of-h-requires t c = head-asks c.requires.0.edition c.part-p.result.now c.part-p.ensures.1
@@ -60,13 +60,11 @@ gather-k-requires t c =
       omega (arith, c.if-up-eq0.false, c.decreases),
       (
         r,
-        rw c.wide.ensures
-            (here-own r a.q.version a.q.high a.up a.n a.at c.requires.1 _ _ c.part-p.ensures.0
-            c.head_of-h.ensures c.if-up-eq0.false _ o),
-        rw c.wide.ensures
-            (space-front _ _
+        here-own r a.q.version a.q.high a.up a.n a.at c.requires.1 _ _ c.part-p.ensures.0
+            c.head_of-h.ensures c.if-up-eq0.false _ o,
+        space-front _ _
             (rw (here-range r a.q.version a.q.high a.up a.n a.at c.requires.1 _ _ c.part-p.ensures.0
-            c.head_of-h.ensures c.if-up-eq0.false _ o a.q.low) at c.requires.2)),
+            c.head_of-h.ensures c.if-up-eq0.false _ o a.q.low) at c.requires.2),
       ),
     )
 
@@ -90,7 +88,7 @@ loop-i-init t c =
       x.here,
       gather-start (rw
           (later_same (a.up - 1) (decode a.l.least a.s.now).pages a.q.version a.q.low a.q.high _ _ _ _ x.same) at
-          (gathers-space _ _ s (rw c.wide.ensures at c.gather-k.ensures))),
+          (gathers-space _ _ s c.gather-k.ensures)),
       sym (from-same a.l.least a.s.now a.q.version a.q.high (a.up - 1) _ _ _ _ x.same)
           ∙ here-all r a.q.version a.q.high a.up a.n a.at c.requires.1 _ _ c.part-p.ensures.0
           c.head_of-h.ensures c.if-up-eq0.false _ o,
@@ -114,9 +112,9 @@ gather-k-requires-in-loop-i t c =
       omega (arith, c.if-up-eq0.false, c.decreases),
       (
         r,
-        rw (c.wide-in-loop-i.ensures, c.entry_at-e.ensures)
+        rw c.entry_at-e.ensures
             (from_first a.l.least a.s.now a.q.version a.q.high (a.up - 1) _ _ l.i h l.invariant.3).0,
-        rw (c.wide-in-loop-i.ensures, c.entry_at-e.ensures) (space-front _ _ g.space),
+        rw c.entry_at-e.ensures (space-front _ _ g.space),
       ),
     )
 
@@ -147,7 +145,7 @@ loop-i-preserved t c =
       x.here,
       gather-same (later_same (a.up - 1) (decode a.l.least a.s.now).pages a.q.version a.q.low a.q.high _ _ _ _
           x.same) (gather-step _ _ g _ _
-          (rw (c.wide-in-loop-i.ensures, c.entry_at-e.ensures) at c.gather-k-in-loop-i.ensures)),
+          (rw c.entry_at-e.ensures at c.gather-k-in-loop-i.ensures)),
       sym (from-same a.l.least a.s.now a.q.version a.q.high (a.up - 1) _ _ _ _ x.same)
           ∙ (from_first a.l.least a.s.now a.q.version a.q.high (a.up - 1) _ _ l.i h l.invariant.3).1,
     )
@@ -168,6 +166,6 @@ returns t c =
     c.head_of-h.result.count in
     rw (here-range r a.q.version a.q.high a.up a.n a.at c.requires.1 _ _ c.part-p.ensures.0
     c.head_of-h.ensures c.if-up-eq0.false _ o a.q.low)
-    (gathers-append (rw c.wide.ensures at c.gather-k.ensures)
+    (gathers-append c.gather-k.ensures
     (rw (later_same (a.up - 1) (decode a.l.least a.s.now).pages a.q.version a.q.low a.q.high _ _ _ _
     c.next_place-i.ensures.same) (gather-end (gather-same z l.invariant.2))))

@@ -1,6 +1,5 @@
 -- `fill` meets its contract. Assumes nothing.
 use native.Mathlib.Omega.{arith}
-use borrow.Author.Rules.{rules}
 use Rattle.walk.proofs.laws.Written.{none-room}
 use Rattle.walk.proofs.laws.Counted.{counted, range-short, second-space, range_all}
 use Rattle.tabled.proofs.laws.Bound.{right-few}

@@ -8,8 +8,8 @@ use mathlib.Core.Option.{Option}
 use mathlib.Core.List.{List, [], ◌∷◌}
 use lib.Dec.{eqb}
 use borrow.Author.Tests.{ne_eqb}
-use Rattle.model.specs.declared.Looked.{Looked}
-use Rattle.model.specs.declared.Looked.TheVariants.{Refused}
+use Rattle.model.specs.Looked.{Looked}
+use Rattle.model.specs.Looked.{Refused}
 use Rattle.model.specs.Page.{Page, pairs_at}
 use Rattle.model.specs.Store.{page}
 use Rattle.model.specs.Walk.{root_at, around, find}

@@ -16,7 +16,7 @@ use Rattle.model.specs.Basic.{pick}
 use Rattle.model.specs.declared.Pair.{Pair}
 use Rattle.model.specs.declared.Slot.{Slot}
 use Rattle.model.specs.declared.Header.{Header}
-use Rattle.model.specs.declared.Looked.TheVariants.{Refused}
+use Rattle.model.specs.Looked.{Refused}
 use Rattle.model.specs.Field.{bit_of, bit_at, field}
 use Rattle.model.specs.Limits.{root_bits, oldest_bits}
 use Rattle.model.specs.Page.{Page, free, pairs_at}

@@ -1,6 +1,5 @@
 -- `sound_range` meets its contract. Assumes nothing.
 use native.Mathlib.Omega.{arith}
-use borrow.Author.Rules.{rules}
 use Rattle.store.proofs.laws.Sure.{few}
 use Rattle.walk.proofs.laws.Sure.{root-covers, covers-inside}
 use Rattle.near.proofs.laws.Sounded.{sound-reads, sound-range}
@@ -11,7 +10,7 @@ height_of-up-requires c =
     let r = c.requires.0 in
     let a = c.args in
     let k = root-covers r a.low c.requires.1 in
-    rw c.root_at-root.ensures (r.edition, covers-inside r _ _ _ k, few r.edition a.s.now r.sound, omega (arith, k.level))
+    rw c.root_at-root.ensures (covers-inside r _ _ _ k, few r.edition a.s.now r.sound, omega (arith, k.level))
 
 pub fill-requires : goal.fill-requires
 fill-requires c =

@@ -1,15 +1,13 @@
 -- Laws about notes/specs/Over. Assumes nothing.
-use Prim.Native.Nat.{ℕ, zero, suc, ◌-◌, ◌≤◌, ◌<◌}
+use Prim.Native.Nat.{ℕ, ◌-◌, ◌≤◌, ◌<◌}
 use mathlib.Core.Bool.{Bool, true, false, ◌&&◌, and-true}
 use mathlib.Core.Path.{◌≡◌, refl, ap, ap₂, sym, ◌∙◌}
 use mathlib.Core.List.{List}
-use lib.Dec.{eqb, eqb-suc-zero}
 use Rattle.model.specs.Basic.{all, count, pick}
 use Rattle.model.specs.Page.{Page}
 use Rattle.model.specs.Store.{Store}
 use Rattle.model.specs.Walk.{root_at, height_of}
-use Rattle.model.specs.Sound.{fewest, versions, rule4, rule5}
-use Rattle.notes.specs.declared.pass.Passed.{Passed}
+use Rattle.model.specs.Sound.{versions, rule4, rule5}
 use Rattle.notes.specs.declared.Note.{Note}
 use Rattle.notes.specs.Notes.{note_at, keys_by, full_by}
 use Rattle.notes.proofs.laws.Laws.{wrong}
@@ -17,12 +15,8 @@ use Rattle.notes.proofs.laws.Versions.{keys_at, full_at}
 use Rattle.notes.specs.Pass.{keys_on, full_on, told}
 use Rattle.notes.proofs.laws.Pass.{keys_on_lem, full-on, keys-run, full-run, run-fails, run_ends, run-stretch, keys-stretch}
 use Rattle.notes.proofs.laws.Pass.{full-stretch, told-rules}
-use Rattle.notes.specs.Over.{Over}
-
--- a root's least number of entries, whatever the edition
-pub fewest-root : (least up : ℕ) → fewest least true up ≡ pick (eqb up 0) 0 2
-fewest-root least zero = refl
-fewest-root least (suc up) = rw (eqb-suc-zero up)
+use Rattle.std.specs.Prelude.{Option, None, Some}
+use Rattle.notes.specs.Over.{keys_in, full_in, Over}
 
 and-group : (a b c : Bool) → (a && (b && c)) ≡ (a && b && c)
 and-group true b c = refl
@@ -50,7 +44,7 @@ module _ (least up : ℕ) (ps : List Page) (root v q c : ℕ) (x : Note) (e : x 
 module _ (least up : ℕ) (ps : List Page) (root a v c : ℕ) where
   pub over-broken : (x : Note) → x ≡ note_at least up ps v root → v < c
       → all (keys_on least up ps root) (count a (c - a)) ≡ all (keys_on least up ps root) (count v (c - v)) → keys_by up x ≡ false
-      → Over least up ps root a c (record { keys = false; full = false })
+      → Over least up ps root a c None
   over-broken x e l h t = record {
     keys = sym (h ∙ run-fails (keys_on least up ps root) v c l (sym (keys_on_lem least up ps root v x e) ∙ t));
     full = λ w. wrong w;
@@ -58,7 +52,7 @@ module _ (least up : ℕ) (ps : List Page) (root a v c : ℕ) where
 
   pub over-whole : (f : Bool) → c ≤ v → all (keys_on least up ps root) (count a (c - a)) ≡ all (keys_on least up ps root) (count v (c - v))
       → all (full_on least up ps root) (count a (c - a)) ≡ (f && all (full_on least up ps root) (count v (c - v)))
-      → Over least up ps root a c (record { keys = true; full = f })
+      → Over least up ps root a c (Some f)
   over-whole f l h g = record {
     keys = sym (h ∙ run_ends (keys_on least up ps root) v c l);
     full = λ w. sym (g ∙ ap (λ (b : Bool). f && b) (run_ends (full_on least up ps root) v c l) ∙ and-true f);
@@ -66,23 +60,23 @@ module _ (least up : ℕ) (ps : List Page) (root a v c : ℕ) where
 
 -- ---- from one slot to the next
 
-module _ (least : ℕ) (s : Store) (up root v c end : ℕ) (w : Passed) (over : Over least up s.pages root v c w)
+module _ (least : ℕ) (s : Store) (up root v c end : ℕ) (w : Option Bool) (over : Over least up s.pages root v c w)
     (height : height_of s.pages root ≡ up)
     (roots : (x : ℕ) → v ≤ x → x < c → root ≡ root_at s.slots x) (low : v ≤ c) (high : c ≤ end) where
-  pub keys-slot : (k : Bool) → k ≡ all (keys_at least s) (count v (end - v)) → k ≡ (w.keys && all (keys_at least s) (count c (end - c)))
+  pub keys-slot : (k : Bool) → k ≡ all (keys_at least s) (count v (end - v)) → k ≡ (keys_in w && all (keys_at least s) (count c (end - c)))
   keys-slot k h =
       h ∙ run-stretch (keys_at least s) v c end low high
       ∙ ap (λ (b : Bool). b && all (keys_at least s) (count c (end - c)))
       (keys-stretch least s up root v c height roots low ∙ sym over.keys)
 
-  pub full-slot : (k f g : Bool) → k ≡ (f && all (full_at least s) (count v (end - v))) → w.keys ≡ true → g ≡ (f && w.full)
+  pub full-slot : (k f g : Bool) → k ≡ (f && all (full_at least s) (count v (end - v))) → keys_in w ≡ true → g ≡ (f && full_in w)
       → k ≡ (g && all (full_at least s) (count c (end - c)))
   full-slot k f g h t q =
       h ∙ ap (λ (b : Bool). f && b)
       (run-stretch (full_at least s) v c end low high
       ∙ ap (λ (b : Bool). b && all (full_at least s) (count c (end - c)))
       (full-stretch least s up root v c height roots low ∙ sym (over.full t)))
-      ∙ and-group f w.full (all (full_at least s) (count c (end - c)))
+      ∙ and-group f (full_in w) (all (full_at least s) (count c (end - c)))
       ∙ ap (λ (b : Bool). b && all (full_at least s) (count c (end - c))) (sym q)
 
 -- ---- the end

@@ -1,6 +1,5 @@
 -- `page::front` meets its contract: the four fields are read one behind the other. Assumes nothing.
 use Rattle.page.specs.Head.{front_by}
-use borrow.Author.Rules.{rules}
 use Rattle.page.proofs.front.Goals as goal
 
 pub returns : goal.returns

@@ -1,13 +1,13 @@
 -- Laws of the limits: what a struct of limits holds, and how wide its counts are. Assumes nothing.
 use Prim.Native.Nat.{ℕ, ◌+◌, ◌*◌, ◌^◌, ◌≤◌, ◌<◌}
 use mathlib.Core.Bool.{Bool, true, false}
-use mathlib.Core.Path.{◌≡◌, refl, ap, sym, ◌∙◌}
+use mathlib.Core.Path.{◌≡◌, refl}
 use native.Mathlib.Omega.{arith}
 use lib.Dec.{leb}
 use borrow.Author.Tests.{leb-true}
 use Rattle.model.specs.Basic.{pick}
 use Rattle.model.specs.declared.Limits.{Limits}
-use Rattle.model.specs.Limits.{count_bits, root_bits, oldest_bits, limits, Edition, live_bits, live_shown}
+use Rattle.model.specs.Limits.{count_bits, root_bits, oldest_bits, Edition, live_bits, live_shown}
 
 -- ---- the widths
 
@@ -91,40 +91,34 @@ oldest-bits least = at (leb least 4)
 
 module _ {l : Limits} (d : Edition l) where
   pub merge-is : l.merge ≡ 2 * l.least
-  merge-is = ap (λ (x : Limits). x.merge) d.all
+  merge-is = d.merging
 
   pub full_is : l.full ≡ 4 * l.least
-  full_is = ap (λ (x : Limits). x.full) d.all
+  full_is = d.filling
 
   pub room-is : l.room ≡ 5 * l.least
-  room-is = ap (λ (x : Limits). x.room) d.all
+  room-is = d.holding
 
   pub bytes-is : l.bytes ≡ 64 * l.least
-  bytes-is = ap (λ (x : Limits). x.bytes) d.all
+  bytes-is = d.paging
 
   pub slots-is : l.slots ≡ 64 * l.least
-  slots-is = ap (λ (x : Limits). x.slots) d.all
+  slots-is = d.slotting
 
   pub counter-is : l.counter ≡ count_bits l.least
-  counter-is = ap (λ (x : Limits). x.counter) d.all
+  counter-is = d.counting
 
   pub counter-counts : CountWidth l.least l.counter
   counter-counts = rw counter-is (count_bits_lem l.least d.eight)
 
   pub rooter-is : l.rooter ≡ root_bits l.least
-  rooter-is = ap (λ (x : Limits). x.rooter) d.all
+  rooter-is = d.rooting
 
   pub rooter-roots : RootWidth l.least l.rooter
   rooter-roots = rw rooter-is (root-bits l.least d.eight)
 
   pub aged-is : l.aged ≡ oldest_bits l.least
-  aged-is = ap (λ (x : Limits). x.aged) d.all
+  aged-is = d.aging
 
   pub aged-few : Aged l.aged
   aged-few = rw aged-is (oldest-bits l.least)
-
--- the limits of a number
-pub edition-of : {l : Limits} (least : ℕ) → l ≡ limits least → 4 ≤ least → least ≤ 8 → Edition l
-edition-of least e h k =
-    let q = ap (λ (x : Limits). x.least) e in
-    record { all = e ∙ ap limits (sym q); four = rw q h; eight = rw q k }

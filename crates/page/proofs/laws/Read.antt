@@ -1,12 +1,13 @@
 -- Laws about page/specs/Read. Assumes nothing.
 use Prim.Native.Nat.{ℕ, zero, suc, ◌+◌, ◌*◌, ◌-◌, ◌^◌, ◌<◌, ◌≤◌}
-use mathlib.Core.Path.{◌≡◌, refl, ap}
+use mathlib.Core.Path.{◌≡◌, refl, ap, sym, ◌∙◌}
 use mathlib.Core.List.{List, [], ◌∷◌}
 use lib.ListN.{length, get_or}
 use native.Mathlib.Omega.{arith}
 use Rattle.bits.proofs.laws.Laws.{field_lt}
 use Rattle.model.specs.Limits.{count_bits, live_bits}
 use Rattle.model.specs.Layout.{read_entry, read_entries, count_of, live_of, decode_page, unused}
+use Rattle.page.specs.declared.Head.{Head}
 use Rattle.page.specs.Head.{read_head}
 use Rattle.page.specs.Read.{FieldsFit}
 
@@ -90,3 +91,7 @@ entries-step p i n h =
 pub entries-end : (p : List ℕ) (o i n : ℕ) → n ≤ i → read_entries p o (n - i) ≡ []
 unfolding read_entries
 entries-end p o i n h = let e : n - i ≡ 0 = omega arith in rw e
+
+-- the entry count of a front that was read
+pub count_read : (least : ℕ) (p : List ℕ) {h : Head} → h ≡ read_head least p → h.count ≡ count_of least p
+count_read least p e = ap (λ (h : Head). h.count) e ∙ sym (count-of least p)

@@ -1,16 +1,11 @@
 -- `page::live_among` meets its contract: those counted and those from i on are all. Assumes nothing.
-use Prim.Native.Nat.{◌≤◌, ◌-◌, ◌+◌, ◌*◌}
+use Prim.Native.Nat.{◌≤◌, ◌+◌}
 use mathlib.Core.Path.{◌≡◌}
-use native.Mathlib.Omega.{arith}
 use lib.ListN.{length}
-use borrow.Author.Rules.{rules}
 use Rattle.model.specs.Basic.{those}
-use Rattle.model.specs.Layout.{lives, read_entry, read_entries}
-use Rattle.page.proofs.laws.Live.{live_from, live-start, live-step, live_end, live-most}
+use Rattle.model.specs.Layout.{lives, read_entries}
+use Rattle.page.proofs.laws.Live.{live_from}
 use Rattle.page.proofs.live_among.Given as goal
 
 abbrev pub invariant-loop-i : goal.invariant-loop-i
-invariant-loop-i l = (l.i ≤ l.n) × (l.live ≤ l.i) × (length (those lives (read_entries l.page 128 l.n)) ≡ l.live + live_from l.page l.i l.n)
-
-abbrev pub decreases-loop-i : goal.decreases-loop-i
-decreases-loop-i l = l.n - l.i
+invariant-loop-i l = (l.live ≤ l.i) × (length (those lives (read_entries l.page 128 l.n)) ≡ l.live + live_from l.page l.i l.n)

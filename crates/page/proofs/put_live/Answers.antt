@@ -1,35 +1,28 @@
 -- `page::put_live` meets its contract: nothing is written, or six bits behind the end. Assumes nothing.
+use Rattle.model.proofs.Edition.{edition}
 use Prim.Native.Nat.{ℕ, ◌+◌}
 use mathlib.Core.Bool.{false}
 use mathlib.Core.Path.{◌≡◌, ap, ◌∙◌}
 use mathlib.Core.List.{List}
-use native.Mathlib.Omega.{arith}
 use lib.Dec.{leb}
 use borrow.Author.Tests.{le-leb, lt-leb}
-use borrow.Author.Rules.{rules}
 use Rattle.model.specs.Limits.{count_bits, live_bits, live_shown}
 use Rattle.model.specs.Field.{put_field}
 use Rattle.page.specs.Head.{put_live}
-use Rattle.page.proofs.laws.Editions.{counter-is, counter-counts}
+use Rattle.page.proofs.laws.Editions.{counter-is}
 use Rattle.page.proofs.put_live.Goals as goal
 
-pub returns-then-l-le4 : goal.returns-then-l-le4
+pub returns-else-l-gt4 : goal.returns-else-l-gt4
 unfolding put_live put_field
-returns-then-l-le4 c = rw (le-leb c.args.l.least 4 c.if-l-le4.true)
+returns-else-l-gt4 c = rw (le-leb c.args.l.least 4 c.if-l-gt4.false)
 
-pub overflow_add-l : goal.overflow_add-l
-overflow_add-l c = omega (arith, counter-counts c.requires.0)
-
-pub put_field-requires : goal.put_field-requires
-put_field-requires c = omega (arith, counter-counts c.requires.0)
-
-pub returns : goal.returns
+pub returns-then-l-gt4 : goal.returns-then-l-gt4
 unfolding put_live
-returns c =
+returns-then-l-gt4 c =
     let a = c.args in
     let p : List ℕ = a.page.now in
-    let e : leb a.l.least 4 ≡ false = lt-leb a.l.least 4 c.if-l-le4.false in
+    let e : leb a.l.least 4 ≡ false = lt-leb a.l.least 4 c.if-l-gt4.true in
     let six : 6 ≡ live_bits a.l.least = rw e in
     let shown : a.n ≡ live_shown a.l.least a.n = rw e in
-    c.put_field.ensures ∙ ap (λ (x : ℕ). put_field p (44 + x) 6 a.n) (counter-is c.requires.0)
+    c.put_field.ensures ∙ ap (λ (x : ℕ). put_field p (44 + x) 6 a.n) (counter-is (edition c.args.l))
     ∙ (λ i. put_field p (44 + count_bits a.l.least) (six i) (shown i))

@@ -1,13 +1,12 @@
 -- Laws about parts/specs/Becomes. Assumes nothing.
-use Prim.Native.Nat.{ℕ, zero, suc, ◌+◌, ◌*◌, ◌-◌}
+use Prim.Native.Nat.{ℕ, ◌+◌, ◌*◌, ◌-◌}
 use mathlib.Core.Path.{◌≡◌, refl, ap, sym, ◌∙◌}
-use mathlib.Core.List.{List, [], ◌∷◌, ◌++◌}
+use mathlib.Core.List.{List, ◌++◌}
 use mathlib.Core.Logic.{⊎_elim, ◌≢◌}
 use native.Mathlib.Omega.{arith}
-use lib.ListN.{get_or, set, take, drop, length-set}
+use lib.ListN.{set, take, drop, length-set}
 use lib.Seq.{get_or-set_same, get_or-set_other, take-set-le}
 use Rattle.model.specs.declared.Limits.{Limits}
-use Rattle.model.specs.declared.Pair.{Pair}
 use Rattle.model.specs.Page.{Page, free}
 use Rattle.model.specs.Store.{Store, page}
 use Rattle.model.specs.Layout.{with_page, encode_page, decode}
@@ -18,9 +17,6 @@ use Rattle.store.specs.Pages.{AllValid}
 use Rattle.store.proofs.laws.Holds.{decode-encoded}
 use Rattle.store.specs.Set.{with_pages}
 use Rattle.store.proofs.laws.Set.{page-set}
-use Rattle.edit.specs.Fill.{nil, Fitting}
-use Rattle.gather.specs.declared.Gather.{Gather}
-use Rattle.gather.specs.Gather.{Good}
 use Rattle.parts.specs.Kept.{ExactBytes, Inside, pages_of}
 use Rattle.parts.specs.Becomes.{Becomes}
 
@@ -88,22 +84,3 @@ module _ {l : Limits} {b : List ℕ} (k : ExactBytes l b) {n : ℕ} (i : Inside 
   pub lent : (a c : ℕ) (x : List ℕ) → a ≡ n * (64 * l.least) → c ≡ 64 * l.least → x ≡ encode_page l.least q
       → Becomes l b (take a b ++ (x ++ drop (a + c - a) (drop a b))) (set (pages_of l b) n q)
   lent a c x ea ec e = rw (part-back l.least b n a c x ea ec, e) put
-
--- ---- a part of what is gathered
-
-fitting-nil : Fitting nil
-fitting-nil = record { key = omega arith; value = omega arith }
-
-fitting-drop : (xs : List Pair) (n : ℕ) → ((k : ℕ) → Fitting (get_or xs k nil)) → (k : ℕ) → Fitting (get_or (drop n xs) k nil)
-fitting-drop xs zero h = h
-fitting-drop [] (suc n) h = λ k. fitting-nil
-fitting-drop (x ∷ xs) (suc n) h = fitting-drop xs n (λ k. h (suc k))
-
-fitting-take : (xs : List Pair) (n k : ℕ) → ((k : ℕ) → Fitting (get_or xs k nil)) → Fitting (get_or (take n xs) k nil)
-fitting-take xs zero k h = fitting-nil
-fitting-take [] (suc n) k h = fitting-nil
-fitting-take (x ∷ xs) (suc n) zero h = h 0
-fitting-take (x ∷ xs) (suc n) (suc k) h = fitting-take xs n k (λ k. h (suc k))
-
-pub fitting-part : (g : Gather) → Good g → (a n k : ℕ) → Fitting (get_or (take n (drop a g.list)) k nil)
-fitting-part g z a n k = fitting-take (drop a g.list) n k (fitting-drop g.list a z.fits)

@@ -6,9 +6,13 @@ use native.Mathlib.Numerals.{add-one}
 use native.Mathlib.Omega.{arith}
 use lib.ListN.{length, drop}
 use lib.Seq.{drop-cons}
+use mathlib.Core.Bool.{Bool, true, false}
+use lib.Dec.{eqb}
+use Rattle.std.specs.Int.{from_bool}
+use Rattle.model.specs.Basic.{keep}
 use borrow.Author.Tests.{eq-eqb, ne_eqb}
 use Rattle.model.specs.Page.{Page, free}
-use Rattle.model.specs.Store.{page, free_ones}
+use Rattle.model.specs.Store.{page, free_ones, free_from}
 use Rattle.parts.specs.Free.{free_past}
 
 pub free_all : (ps : List Page) → free_ones ps ≡ free_past ps 5
@@ -33,3 +37,12 @@ module _ (ps : List Page) (i : ℕ) where
       past [] (suc i) h = refl
       past (x ∷ l) zero h = absurd (omega arith)
       past (x ∷ l) (suc i) h = past l i (omega arith)
+
+  -- how many there are from page i on
+  pub free-step : i < length ps → length (free_past ps i) ≡ from_bool (eqb (page ps i).level 0) + length (free_past ps (i + 1))
+  unfolding free_past
+  free-step h = rw (drop-cons ps i free h, add-one) (by (eqb (page ps i).level 0))
+    where
+      by : (b : Bool) → length (keep b i (free_from (suc i) (drop (suc i) ps))) ≡ from_bool b + length (free_from (suc i) (drop (suc i) ps))
+      by true = omega arith
+      by false = omega arith

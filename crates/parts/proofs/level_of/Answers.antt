@@ -3,15 +3,14 @@ use Rattle.page.proofs.laws.Read.{level-of}
 use Rattle.model.specs.Layout.{page_of}
 use Rattle.model.specs.Page.{Page}
 use mathlib.Core.Path.{sym, ap, ◌∙◌}
-use borrow.Author.Rules.{rules}
 use Rattle.parts.proofs.level_of.Goals as goal
 
 pub part-requires : goal.part-requires
-part-requires c = let k = c.requires.0 in (k.edition, part_in k c.requires.1, short k)
+part-requires c = let k = c.requires.0 in (part_in k c.requires.1, short k)
 
 pub returns : goal.returns
 returns c =
     let k = c.requires.0 in
-    ap (λ h. h.level) c.head_of-h.ensures ∙ rw c.part.ensures.0
+    ap (λ h. h.level) c.head_of.ensures ∙ rw c.part.ensures.0
     (sym (level-of c.args.l.least (page_of c.args.l.least c.args.s.now c.args.n)))
     ∙ ap (λ (p : Page). p.level) (shown k c.requires.1)

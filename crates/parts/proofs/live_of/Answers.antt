@@ -2,7 +2,7 @@ use Rattle.parts.proofs.laws.Kept.{part_in, short, shown, counted}
 use Rattle.parts.proofs.live_of.Goals as goal
 
 pub part-requires : goal.part-requires
-part-requires c = let k = c.requires.0 in (k.edition, part_in k c.requires.1, short k)
+part-requires c = let k = c.requires.0 in (part_in k c.requires.1, short k)
 
 pub live_pairs-requires : goal.live_pairs-requires
 live_pairs-requires c = rw c.part.ensures.0 (counted c.requires.0 c.requires.1)

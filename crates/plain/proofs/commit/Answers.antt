@@ -1,37 +1,24 @@
 -- `commit` meets its contract. Assumes nothing.
 use Prim.Native.Nat.{ℕ, suc, ◌+◌}
 use native.Mathlib.Omega.{arith}
+use mathlib.Core.Bool.{false}
 use mathlib.Core.Path.{◌≡◌, ap, sym, ◌∙◌}
 use borrow.Author.Tests.{not-true, not-false}
 use Rattle.model.specs.Basic.{is_empty}
-use Rattle.plain.specs.declared.Left.{Left}
 use Rattle.plain.specs.Plain.{Given, differs}
 use Rattle.plain.specs.Items.{plain_of, from}
-use Rattle.plain.specs.Calls.{given_by}
 use Rattle.plain.proofs.laws.Calls.{commit-seven, commit-fifteen, commit-done}
-use mathlib.Core.Bool.{false}
-use borrow.Author.Rules.{rules}
 use Rattle.plain.proofs.commit.Goals as goal
 
 pub returns-then-not-s : goal.returns-then-not-s
-returns-then-not-s c =
-    let a = c.args in
-    ap (λ (r : Left). given_by r a.items.now) c.refused.ensures
-    ∙ commit-seven (plain_of a.s a.items.now) (not-true a.s.opened c.if-not-s.true)
-
-pub overflow_add-w : goal.overflow_add-w
-overflow_add-w c = omega (arith, c.requires.version)
-
-pub same_settings-requires : goal.same_settings-requires
-same_settings-requires c = c.requires.lent.room
+returns-then-not-s c = let a = c.args in commit-seven (plain_of a.s a.items.now) (not-true a.s.opened c.if-not-s.true)
 
 pub returns-then-same_settings : goal.returns-then-same_settings
 returns-then-same_settings c =
     let a = c.args in
     let is : a.s.current + 1 ≡ suc a.s.current = omega arith in
     let e = sym c.same_settings.ensures ∙ c.if-same_settings.true in
-    ap (λ (r : Left). given_by r a.items.now) c.refused-then-same_settings.ensures
-    ∙ commit-fifteen (plain_of a.s a.items.now) (not-false a.s.opened c.if-not-s.false)
+    commit-fifteen (plain_of a.s a.items.now) (not-false a.s.opened c.if-not-s.false)
     (ap (λ (w : ℕ). is_empty (differs a.s.current w (from a.items.now 0 a.s.count))) (sym is) ∙ e)
 
 pub returns : goal.returns

@@ -5,29 +5,20 @@ use Rattle.model.proofs.reading.Telling.{none-room, counted, told-short, second-
 use Rattle.model.specs.Telling.{deltas}
 use Rattle.plain.specs.Items.{plain_of, from}
 use Rattle.plain.proofs.laws.Tell.{differs-few, difference-old, difference-new, difference-done}
-use borrow.Author.Rules.{rules}
+use Rattle.plain.proofs.difference.Goals.{then-unreadable-via-then-unreadable, then-unreadable-via-else-unreadable+then-unreadable-2}
 use Rattle.plain.proofs.difference.Goals as goal
-
-pub unreadable-requires : goal.unreadable-requires
-unreadable-requires c = c.requires.version
 
 pub returns-then-unreadable : goal.returns-then-unreadable
 returns-then-unreadable c =
     let a = c.args in
-    rw c.told_as.ensures
-    (difference-old (plain_of a.s a.items.now) a.u a.v a.list.now
-    (sym c.unreadable.ensures ∙ c.if-unreadable.true))
-
-pub unreadable-requires-2 : goal.unreadable-requires-2
-unreadable-requires-2 c = c.requires.version
-
-pub returns-then-unreadable-2 : goal.returns-then-unreadable-2
-returns-then-unreadable-2 c =
-    let a = c.args in
-    rw c.told_as-then-unreadable-2.ensures
-    (difference-new (plain_of a.s a.items.now) a.u a.v a.list.now
-    (sym c.unreadable.ensures ∙ c.if-unreadable.false)
-    (sym c.unreadable-2.ensures ∙ c.if-unreadable-2.true))
+    let p = plain_of a.s a.items.now in
+    elim c.then-unreadable.branch [
+      | then-unreadable-via-then-unreadable w
+          ↦ difference-old p a.u a.v a.list.now (sym c.unreadable.ensures ∙ w.if-unreadable.true)
+      | then-unreadable-via-else-unreadable+then-unreadable-2 w
+          ↦ difference-new p a.u a.v a.list.now (sym c.unreadable.ensures ∙ w.if-unreadable.false)
+          (sym w.unreadable-else-unreadable.ensures ∙ w.if-unreadable-2.true)
+    ]
 
 pub tell_differences-found-requires : goal.tell_differences-found-requires
 tell_differences-found-requires c =
@@ -48,13 +39,10 @@ overflow_mul-found c =
 pub returns-then-list-found : goal.returns-then-list-found
 returns-then-list-found c =
     let a = c.args in
-    rw c.told_as-then-list-found.ensures
     (told-short deltas c.tell_differences-found.ensures c.if-list-found.true
     ∙ difference-done (plain_of a.s a.items.now) a.u a.v a.list.now
-    (sym c.unreadable.ensures
-    ∙ c.if-unreadable.false)
-    (sym c.unreadable-2.ensures
-    ∙ c.if-unreadable-2.false))
+    (sym c.unreadable.ensures ∙ c.if-unreadable.false)
+    (sym c.unreadable-else-unreadable.ensures ∙ c.if-unreadable-2.false))
 
 pub tell_differences-requires : goal.tell_differences-requires
 tell_differences-requires c =
@@ -67,11 +55,8 @@ tell_differences-requires c =
 pub returns : goal.returns
 returns c =
     let a = c.args in
-    rw c.told_as-2.ensures
     (told-all deltas c.tell_differences-found.ensures
     c.if-list-found.false c.tell_differences.ensures
     ∙ difference-done (plain_of a.s a.items.now) a.u a.v a.list.now
-    (sym c.unreadable.ensures
-    ∙ c.if-unreadable.false)
-    (sym c.unreadable-2.ensures
-    ∙ c.if-unreadable-2.false))
+    (sym c.unreadable.ensures ∙ c.if-unreadable.false)
+    (sym c.unreadable-else-unreadable.ensures ∙ c.if-unreadable-2.false))

@@ -10,7 +10,7 @@ use lib.ListN.{length, length-append}
 use borrow.Author.Tests.{le-leb, lt-leb, eq-eqb, ne_eqb}
 use Rattle.model.specs.Basic.{is_empty}
 use Rattle.model.specs.declared.Entry.{Entry}
-use Rattle.model.specs.declared.Looked.TheVariants.{Refused}
+use Rattle.model.specs.Looked.{Refused}
 use Rattle.model.specs.Entry.{pair, alive, born}
 use Rattle.model.specs.Walk.{key_limit}
 use Rattle.model.specs.Calls.{is_some, rule, first_of, beyond, bench_limit, restored_entries, looked_at, looked_by}
@@ -20,7 +20,7 @@ use Rattle.plain.specs.Plain.{pruned, begin, insert, delete, commit, abandon, re
 use Rattle.plain.specs.Items.{plain_of, from}
 use Rattle.plain.specs.Laid.{laid}
 use Rattle.plain.proofs.laws.Laid.{from-behind, from-length}
-use Rattle.plain.specs.Sweep.{fate, outliving, swept}
+use Rattle.plain.specs.Sweep.{ended, undone, outliving, swept}
 use Rattle.plain.proofs.laws.Sweep.{swept-ended, swept-undone, swept-outliving}
 use Rattle.plain.specs.Calls.{Room}
 
@@ -223,16 +223,16 @@ module _ (s : State) (ns : List ℕ) (k w : ℕ) (is : w ≡ suc s.current) (o :
         ∙ ap (λ (v : ℕ). given s s.opened (set_key v k x (from ns 0 s.count))) is ∙ made
 
   pub delete-left : k < key_limit → (y : ℕ) → value_at k w (from ns 0 s.count) ≡ some y → (es : List Entry)
-      → es ≡ swept (fate w false k) (from ns 0 s.count)
+      → es ≡ swept (ended w k) (from ns 0 s.count)
       → given s s.opened es ≡ delete (plain_of s ns) k
   delete-left h y e es d =
       ap (given s s.opened) (d ∙ swept-ended w k (from ns 0 s.count))
       ∙ ap (λ (v : ℕ). given s s.opened (end_key v k (from ns 0 s.count))) is
       ∙ delete-done (plain_of s ns) k h o y (ap (λ (v : ℕ). value_at k v (from ns 0 s.count)) (sym is) ∙ e)
 
-  pub abandon-left : (es : List Entry) → es ≡ swept (fate w true k) (from ns 0 s.count) → given s false es ≡ abandon (plain_of s ns)
+  pub abandon-left : (es : List Entry) → es ≡ swept (undone w) (from ns 0 s.count) → given s false es ≡ abandon (plain_of s ns)
   abandon-left es d =
-      ap (given s false) (d ∙ swept-undone w k (from ns 0 s.count))
+      ap (given s false) (d ∙ swept-undone w (from ns 0 s.count))
       ∙ ap (λ (v : ℕ). given s false (restored_entries v (from ns 0 s.count))) is ∙ abandon-done (plain_of s ns) o
 
 -- what is left of a prune

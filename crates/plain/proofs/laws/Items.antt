@@ -1,18 +1,19 @@
 -- Laws about plain/specs/Items. Assumes nothing.
 use Prim.Native.Nat.{ℕ, suc, ◌+◌, ◌-◌, ◌≤◌, ◌<◌}
 use native.Mathlib.Omega.{arith}
-use mathlib.Core.Bool.{Bool, true, false, ◌&&◌}
+use mathlib.Core.Bool.{Bool, true, false, ◌&&◌, not}
+use borrow.Author.Tests.{not-true, not-false}
 use mathlib.Core.Option.{Option, none, some}
-use mathlib.Core.Path.{◌≡◌, refl, ap, sym, ◌∙◌}
+use Rattle.std.specs.Option.{option_eq}
+use Rattle.std.specs.Prelude.{Option as Found, Some, None, is_some}
+use mathlib.Core.Path.{◌≡◌, refl, ap, ap₂, sym, ◌∙◌}
 use mathlib.Core.List.{List, [], ◌∷◌}
 use lib.Dec.{eqb}
 use Rattle.model.specs.Basic.{pick}
 use Rattle.model.specs.Entry.{live_at}
-use Rattle.model.specs.declared.Looked.TheVariants.{Value, Absent}
-use Rattle.model.specs.Calls.{looked_at}
-use Rattle.plain.specs.declared.items.Found.{Found}
-use Rattle.plain.specs.Plain.{value_at}
-use Rattle.plain.specs.Items.{item, from, found_of}
+use Rattle.model.specs.Refusals.{found_in}
+use Rattle.plain.specs.Plain.{value_at, same_value}
+use Rattle.plain.specs.Items.{item, from}
 
 -- ---- laws
 
@@ -39,16 +40,27 @@ module _ (k v : ℕ) (ns : List ℕ) (i n : ℕ) (h : i < n) where
 
 -- ---- what is found
 
-pub found_some : (o : Option ℕ) (a : Found) → a ≡ found_of o → a.is ≡ true → o ≡ some a.value
-found_some none a e h = absurd (let z : ◌≡◌ {A = ℕ} 0 1 = cc in omega arith)
-found_some (some x) a e h = ap (λ (b : Found). some b.value) (sym e)
+pub some-there : {A : Type 0} (a : Found A) {o : Option A} → found_in a ≡ o → is_some a ≡ true → (x : A) × (o ≡ some x)
+some-there None e h = absurd (let z : ◌≡◌ {A = ℕ} 0 1 = cc in omega arith)
+some-there (Some x) e h = (x, sym e)
 
-pub found_none : (o : Option ℕ) (a : Found) → a ≡ found_of o → a.is ≡ false → o ≡ none
-found_none none a e h = refl
-found_none (some x) a e h = absurd (let z : ◌≡◌ {A = ℕ} 0 1 = cc in omega arith)
+pub none-there : {A : Type 0} (a : Found A) {o : Option A} → found_in a ≡ o → is_some a ≡ false → o ≡ none
+none-there None e h = sym e
+none-there (Some x) e h = absurd (let z : ◌≡◌ {A = ℕ} 0 1 = cc in omega arith)
 
-pub looked-found : (o : Option ℕ) {a : Found} → a ≡ found_of o → a.is ≡ true → Value a.value ≡ looked_at o
-looked-found o {a} e h = sym (ap looked_at (found_some o a e h))
+-- two lookups, as the code compares them
+pub equal-found : (a b : Found ℕ) → option_eq eqb a b ≡ same_value (found_in a) (found_in b)
+equal-found None None = refl
+equal-found None (Some y) = refl
+equal-found (Some x) None = refl
+equal-found (Some x) (Some y) = refl
 
-pub looked-none : (o : Option ℕ) {a : Found} → a ≡ found_of o → a.is ≡ false → Absent ≡ looked_at o
-looked-none o {a} e h = sym (ap looked_at (found_none o a e h))
+module _ (a b : Found ℕ) {o p : Option ℕ} (e : found_in a ≡ o) (f : found_in b ≡ p) where
+  pub same-found : option_eq eqb a b ≡ same_value o p
+  same-found = equal-found a b ∙ ap₂ same_value e f
+
+  pub ne-same : {r : Bool} → r ≡ not (option_eq eqb a b) → r ≡ false → same_value o p ≡ true
+  ne-same g h = sym same-found ∙ not-false (option_eq eqb a b) (sym g ∙ h)
+
+  pub ne-other : {r : Bool} → r ≡ not (option_eq eqb a b) → r ≡ true → same_value o p ≡ false
+  ne-other g h = sym same-found ∙ not-true (option_eq eqb a b) (sym g ∙ h)

@@ -6,43 +6,17 @@ use mathlib.Core.Option.{Option, none, some}
 use mathlib.Core.Path.{◌≡◌, refl, ap, ap₂, sym, ◌∙◌}
 use mathlib.Core.List.{List, [], ◌∷◌, ◌++◌}
 use lib.Dec.{leb, eqb}
-use borrow.Author.Tests.{eq-eqb, ne_eqb, leb-true, leb-false}
+use borrow.Author.Tests.{leb-true, leb-false}
 use Rattle.model.specs.Basic.{pick, flat_map, count, is_empty}
 use Rattle.model.specs.declared.Entry.{Entry}
 use Rattle.model.specs.declared.Delta.{Delta}
 use Rattle.model.specs.Entry.{live_at}
 use Rattle.model.specs.Walk.{key_limit}
 use Rattle.model.specs.Differ.{says_of}
-use Rattle.model.proofs.lists.Bools.{fails-left}
-use Rattle.plain.specs.declared.items.Found.{Found}
 use Rattle.plain.specs.Plain.{value_at, same_value, keys, differs}
-use Rattle.plain.specs.Items.{found_of, item, from}
+use Rattle.plain.specs.Items.{item, from}
 use Rattle.plain.proofs.laws.Items.{value_on}
-use Rattle.plain.specs.Scan.{Lower, SkipsKeys, same_found}
-
--- a key that is not between a and q
-pub lower-out : (e : Entry) (a r u v q : ℕ) → a ≤ q → q ≤ r → ((k : ℕ) → a ≤ k → k < q → e.key ≡ k → ⊥) → Lower e a r u v q
-lower-out e a r u v q h i n = record {
-  behind = h;
-  within = i;
-  old = λ k x y. fails-left (eqb e.key k) (live_at u e) (ne_eqb e.key k (n k x y));
-  new = λ k x y. fails-left (eqb e.key k) (live_at v e) (ne_eqb e.key k (n k x y));
-}
-
--- an item that is alive at neither
-pub lower-dead : (e : Entry) (a r u v : ℕ) → a ≤ r → (eqb e.key e.key && live_at u e) ≡ false
-    → (eqb e.key e.key && live_at v e) ≡ false → Lower e a r u v r
-lower-dead e a r u v h i j =
-    record {
-      behind = h;
-      within = omega arith;
-      old = λ k x y. at (live_at u e) i (eqb e.key k);
-      new = λ k x y. at (live_at v e) j (eqb e.key k);
-    }
-  where
-    at : (d : Bool) → (eqb e.key e.key && d) ≡ false → (b : Bool) → (b && d) ≡ false
-    at d z true = sym (ap (λ (b : Bool). b && d) (eq-eqb e.key e.key refl)) ∙ z
-    at d z false = refl
+use Rattle.plain.specs.Scan.{Lower, SkipsKeys}
 
 -- on the way: the items passed say nothing of the keys from a up to r
 pub record Skipping (a r u v : ℕ) (ns : List ℕ) (i n : ℕ) : Type 0 where
@@ -61,12 +35,6 @@ skips-on a r u v ns i n h s e is q l = record {
   new = λ k x y. s.new k x (omega (arith, l.within))
       ∙ value_on k v ns i n h (ap (λ (f : Entry). eqb f.key k && live_at v f) (sym is) ∙ l.new k x y);
 }
-
-pub same-found : (o p : Option ℕ) → same_found (found_of o) (found_of p) ≡ same_value o p
-same-found none none = refl
-same-found none (some y) = refl
-same-found (some x) none = refl
-same-found (some x) (some y) = refl
 
 -- ---- each key from a up to, not including, h
 
@@ -128,21 +96,16 @@ says_other k none (some y) h ds = refl
 says_other k (some x) none h ds = refl
 says_other k (some x) (some y) h ds = ap (λ (b : Bool). is_empty (pick b [] (record { key = k; kind = 2; old = x; new = y } ∷ []) ++ ds)) h
 
-module _ (u v : ℕ) (es : List Entry) (k : ℕ) (low : k < key_limit) (a b : Found) (p : a ≡ found_of (value_at k u es))
-    (q : b ≡ found_of (value_at k v es)) where
-  found-same : same_found a b ≡ same_value (value_at k u es) (value_at k v es)
-  found-same = ap₂ same_found p q ∙ same-found (value_at k u es) (value_at k v es)
-
-  pub saying-same : same_found a b ≡ true → told (saying u v es) k keys ≡ told (saying u v es) (k + 1) keys
+module _ (u v : ℕ) (es : List Entry) (k : ℕ) (low : k < key_limit) where
+  pub saying-same : same_value (value_at k u es) (value_at k v es) ≡ true → told (saying u v es) k keys ≡ told (saying u v es) (k + 1) keys
   saying-same h =
       told-step (saying u v es) k keys (omega (arith, low, keys-limit))
-      ∙ ap (λ (ds : List Delta). ds ++ told (saying u v es) (k + 1) keys)
-      (says_same k (value_at k u es) (value_at k v es) (sym found-same ∙ h))
+      ∙ ap (λ (ds : List Delta). ds ++ told (saying u v es) (k + 1) keys) (says_same k (value_at k u es) (value_at k v es) h)
 
-  pub saying-other : same_found a b ≡ false → is_empty (told (saying u v es) k keys) ≡ false
+  pub saying-other : same_value (value_at k u es) (value_at k v es) ≡ false → is_empty (told (saying u v es) k keys) ≡ false
   saying-other h =
       ap (λ (ds : List Delta). is_empty ds) (told-step (saying u v es) k keys (omega (arith, low, keys-limit)))
-      ∙ says_other k (value_at k u es) (value_at k v es) (sym found-same ∙ h) (told (saying u v es) (k + 1) keys)
+      ∙ says_other k (value_at k u es) (value_at k v es) h (told (saying u v es) (k + 1) keys)
 
 pub saying-end : (u v : ℕ) (es : List Entry) (k : ℕ) → key_limit ≤ k → told (saying u v es) k keys ≡ []
 saying-end u v es k h = told-end (saying u v es) k keys (omega (arith, h, keys-limit))

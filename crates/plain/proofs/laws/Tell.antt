@@ -4,39 +4,42 @@ use native.Mathlib.Omega.{arith}
 use mathlib.Core.Bool.{Bool, true, false, ◌||◌}
 use mathlib.Core.Option.{Option, none, some}
 use mathlib.Core.Path.{◌≡◌, refl, ap, ap₂, sym, ◌∙◌}
-use mathlib.Core.List.{List, [], ◌∷◌, ◌++◌}
+use mathlib.Core.List.{List, [], ◌∷◌, ◌++◌, append_assoc}
 use lib.Dec.{leb, ltb, eqb}
-use lib.ListN.{length, length-append}
+use lib.Seq.{sets, sets-eq, drop-drop}
+use borrow.Rule.Slice.PartMut.{put_mid}
+use lib.ListN.{length, take, drop, length-append}
 use borrow.Author.Tests.{leb-false, ltb-false}
 use Rattle.model.specs.Basic.{pick, flat_map, count}
 use Rattle.model.specs.declared.Pair.{Pair}
 use Rattle.model.specs.declared.Entry.{Entry}
 use Rattle.model.specs.declared.Delta.{Delta}
-use Rattle.model.specs.Entry.{pair}
 use Rattle.model.specs.Walk.{key_limit}
 use Rattle.model.specs.Calls.{rule, first_of, pair_numbers, ranged_in, ranged_by, bad_range}
 use Rattle.model.specs.Told.{told_in, told_by}
 use Rattle.model.specs.Differ.{delta_numbers, says_of}
 use Rattle.model.specs.Lent.{Listed, listed}
+use Rattle.model.specs.Telling.{Shape, written}
+use Rattle.model.proofs.reading.Telling.{write-one, write-not}
 use Rattle.model.proofs.lists.Members.{neither}
-use Rattle.plain.specs.declared.items.Found.{Found}
 use Rattle.plain.specs.Plain.{Plain, unreadable, value_at, setting, settings, keys, differs, range, difference}
-use Rattle.plain.specs.Items.{found_of}
-use Rattle.plain.specs.Scan.{SkipsKeys, same_found}
+use Rattle.plain.specs.Scan.{SkipsKeys}
 use Rattle.plain.proofs.laws.Scan.{told, told-end, told-step, told-skip, saying, keys-limit}
-use Rattle.plain.specs.Tell.{setting_by, kind_by, delta_by, told_as, told_with}
 
 -- ---- laws
 
-setting-found : (k : ℕ) (o : Option ℕ) → setting_by k (found_of o) ≡ setting k o
-setting-found k none = refl
-setting-found k (some x) = refl
+-- one thing's numbers, written or not
+pub put-one : {A : Type 0} (t : Shape A) (w : Bool) (ns : List ℕ) (k : ℕ) (x : A)
+    → pick w (sets ns (t.each * k) (t.numbers x)) ns ≡ written t w ns k (x ∷ [])
+put-one t true ns k x = write-one t ns k x
+put-one t false ns k x = sym (write-not t ns k (x ∷ []))
 
-delta-found : (k : ℕ) (o p : Option ℕ) → delta_by k (found_of o) (found_of p) ≡ says_of k o p
-delta-found k none none = refl
-delta-found k none (some y) = refl
-delta-found k (some x) none = refl
-delta-found k (some x) (some y) = refl
+-- a part of a list, written over
+pub mid-sets : (ns vs : List ℕ) (i k : ℕ) → length vs ≡ k → i + k ≤ length ns → put_mid i k ns vs ≡ sets ns i vs
+mid-sets ns vs i k e h =
+    ap (λ (us : List ℕ). take i ns ++ (vs ++ us)) (drop-drop k i ns)
+    ∙ ap (λ (n : ℕ). take i ns ++ (vs ++ drop (i + n) ns)) (sym e)
+    ∙ sym (append_assoc (take i ns) vs (drop (i + length vs) ns)) ∙ sym (sets-eq vs ns i (omega (arith, e)))
 
 -- the settings from key a on
 abbrev pub showing : ℕ → List Entry → ℕ → List Pair
@@ -45,21 +48,20 @@ showing v es k = setting k (value_at k v es)
 pub showing-skip : (a r hi v : ℕ) (es : List Entry) → SkipsKeys a r v v es → told (showing v es) a (suc hi) ≡ told (showing v es) r (suc hi)
 showing-skip a r hi v es s = told-skip (showing v es) a r (suc hi) s.behind (λ k x y. ap (setting k) (s.old k x y))
 
-pub showing-step : (k hi v : ℕ) (es : List Entry) → k ≤ hi → (a : Found) → a ≡ found_of (value_at k v es)
-    → told (showing v es) k (suc hi) ≡ setting_by k a ++ told (showing v es) (k + 1) (suc hi)
-showing-step k hi v es h a e =
+pub showing-step : (k hi v : ℕ) (es : List Entry) → k ≤ hi → {o : Option ℕ} → o ≡ value_at k v es
+    → told (showing v es) k (suc hi) ≡ setting k o ++ told (showing v es) (k + 1) (suc hi)
+showing-step k hi v es h e =
     told-step (showing v es) k (suc hi) (omega arith)
-    ∙ ap (λ (us : List Pair). us ++ told (showing v es) (k + 1) (suc hi)) (sym (ap (setting_by k) e ∙ setting-found k (value_at k v es)))
+    ∙ ap (λ (x : Option ℕ). setting k x ++ told (showing v es) (k + 1) (suc hi)) (sym e)
 
 pub showing-end : (k hi v : ℕ) (es : List Entry) → hi < k → told (showing v es) k (suc hi) ≡ []
 showing-end k hi v es h = told-end (showing v es) k (suc hi) h
 
-pub saying-step : (k u v : ℕ) (es : List Entry) → k < key_limit → (a b : Found) → a ≡ found_of (value_at k u es) → b ≡ found_of (value_at k v es)
-    → told (saying u v es) k keys ≡ delta_by k a b ++ told (saying u v es) (k + 1) keys
-saying-step k u v es h a b e f =
+pub saying-step : (k u v : ℕ) (es : List Entry) → k < key_limit → {o p : Option ℕ} → o ≡ value_at k u es → p ≡ value_at k v es
+    → told (saying u v es) k keys ≡ says_of k o p ++ told (saying u v es) (k + 1) keys
+saying-step k u v es h e f =
     told-step (saying u v es) k keys (omega (arith, h, keys-limit))
-    ∙ ap (λ (ds : List Delta). ds ++ told (saying u v es) (k + 1) keys)
-    (sym (ap₂ (delta_by k) e f ∙ delta-found k (value_at k u es) (value_at k v es)))
+    ∙ ap₂ (λ (x y : Option ℕ). says_of k x y ++ told (saying u v es) (k + 1) keys) (sym e) (sym f)
 
 -- at most one for each key
 few : {A : Type 0} (f : ℕ → List A) → ((k : ℕ) → length (f k) ≤ 1) → (n a : ℕ) → length (flat_map f (count a n)) ≤ n
@@ -97,35 +99,18 @@ ranged-told zero room us = at (first_of (rule 14 (ltb room (2 * length us)) ∷ 
     at (suc m) = refl
 ranged-told (suc n) room us = refl
 
-delta-one : (k : ℕ) (a b : Found) → same_found a b ≡ false
-    → delta_by k a b ≡ record { key = k; kind = kind_by a b; old = a.value; new = b.value } ∷ []
-delta-one k a b h = ap (λ (c : Bool). pick c [] (record { key = k; kind = kind_by a b; old = a.value; new = b.value } ∷ [])) h
-
-pub delta-told : (k : ℕ) (a b : Found) → same_found a b ≡ false → (n : ℕ) → n ≡ kind_by a b
-    → delta_by k a b ≡ record { key = k; kind = n; old = a.value; new = b.value } ∷ []
-delta-told k a b h n e =
-    delta-one k a b h ∙ ap {B = List Delta} (λ (m : ℕ). record { key = k; kind = m; old = a.value; new = b.value } ∷ []) (sym e)
-
-pub delta-none : (k : ℕ) (a b : Found) → same_found a b ≡ true → delta_by k a b ≡ []
-delta-none k a b h = ap (λ (c : Bool). pick c [] (record { key = k; kind = kind_by a b; old = a.value; new = b.value } ∷ [])) h
-
-pub setting-told : (k : ℕ) (a : Found) → a.is ≡ true → setting_by k a ≡ pair k a.value ∷ []
-setting-told k a h = ap (λ (c : Bool). pick c (pair k a.value ∷ []) []) h
-
-pub setting-none : (k : ℕ) (a : Found) → a.is ≡ false → setting_by k a ≡ []
-setting-none k a h = ap (λ (c : Bool). pick c (pair k a.value ∷ []) []) h
-
 -- ---- the calls
 
 module _ (p : Plain) (lo hi v : ℕ) (ns : List ℕ) where
   abbrev ranging : ℕ → Listed
   ranging n = listed ns (ranged_by n (length ns) (settings lo hi v p.items))
 
-  pub range-five : bad_range lo hi ≡ true → told_with (told_as 5 0) ns ≡ listed ns (range p lo hi v (length ns))
+  pub range-five : bad_range lo hi ≡ true → record { number = 5; count = 0; list = ns } ≡ listed ns (range p lo hi v (length ns))
   unfolding range ranged_by
   range-five h = ap (λ (b : Bool). ranging (first_of (rule 5 b ∷ rule 6 (unreadable p v) ∷ []))) (sym h)
 
-  pub range-six : bad_range lo hi ≡ false → unreadable p v ≡ true → told_with (told_as 6 0) ns ≡ listed ns (range p lo hi v (length ns))
+  pub range-six : bad_range lo hi ≡ false → unreadable p v ≡ true
+      → record { number = 6; count = 0; list = ns } ≡ listed ns (range p lo hi v (length ns))
   unfolding range ranged_by
   range-six h i = ap₂ (λ (b c : Bool). ranging (first_of (rule 5 b ∷ rule 6 c ∷ []))) (sym h) (sym i)
 
@@ -140,11 +125,12 @@ module _ (p : Plain) (u v : ℕ) (ns : List ℕ) where
   abbrev differing : ℕ → Listed
   differing n = listed ns (told_by delta_numbers 4 n (length ns) (differs u v p.items))
 
-  pub difference-old : unreadable p u ≡ true → told_with (told_as 6 0) ns ≡ listed ns (difference p u v (length ns))
+  pub difference-old : unreadable p u ≡ true → record { number = 6; count = 0; list = ns } ≡ listed ns (difference p u v (length ns))
   unfolding difference told_by
   difference-old h = ap (λ (b : Bool). differing (first_of (rule 6 (b || unreadable p v) ∷ []))) (sym h)
 
-  pub difference-new : unreadable p u ≡ false → unreadable p v ≡ true → told_with (told_as 6 0) ns ≡ listed ns (difference p u v (length ns))
+  pub difference-new : unreadable p u ≡ false → unreadable p v ≡ true
+      → record { number = 6; count = 0; list = ns } ≡ listed ns (difference p u v (length ns))
   unfolding difference told_by
   difference-new h i = ap₂ (λ (b c : Bool). differing (first_of (rule 6 (b || c) ∷ []))) (sym h) (sym i)
 

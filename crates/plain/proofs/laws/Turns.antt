@@ -10,86 +10,68 @@ use Rattle.model.specs.Basic.{pick, count}
 use Rattle.model.specs.declared.Entry.{Entry}
 use Rattle.model.specs.Entry.{pair, alive, born}
 use Rattle.model.specs.Walk.{key_limit}
-use Rattle.model.specs.Telling.{Gathers}
 use Rattle.model.specs.Calls.{beyond}
 use Rattle.plain.specs.declared.State.{State}
-use Rattle.plain.specs.declared.items.Found.{Found}
 use Rattle.plain.specs.Plain.{value_at, set_key, end_key, same_value, end_other, set_as, set_missing, in_turn, back_to, keys, Given, return}
-use Rattle.plain.specs.Items.{plain_of, Lent, found_of, from, kept}
-use Rattle.plain.proofs.laws.Items.{found_some, found_none}
+use Rattle.plain.specs.Items.{plain_of, Lent, from}
 use Rattle.plain.specs.Laid.{laid}
 use Rattle.plain.proofs.laws.Laid.{length-laid, from-behind, from-length}
-use Rattle.plain.specs.Sweep.{fate, swept}
-use Rattle.plain.proofs.laws.Sweep.{swept-ended, swept-few, swept-read}
-use Rattle.plain.specs.Scan.{SkipsKeys, same_found}
-use Rattle.plain.proofs.laws.Scan.{same-found, keys-limit}
+use Rattle.plain.specs.Sweep.{ended, swept}
+use Rattle.plain.proofs.laws.Sweep.{swept-ended, swept-few}
+use Rattle.plain.specs.Scan.{SkipsKeys}
+use Rattle.plain.proofs.laws.Scan.{keys-limit}
 use Rattle.plain.specs.Calls.{Room}
 use Rattle.plain.proofs.laws.Calls.{given, return-done}
 use Rattle.plain.specs.Turns.{Turned}
 
 -- ---- one key
 
-module _ (ns : List ℕ) (n w v k : ℕ) (l : Lent n ns) (a b : Found) (p : a ≡ found_of (value_at k w (from ns 0 n)))
-    (q : b ≡ found_of (value_at k v (from ns 0 n))) where
+module _ (ns : List ℕ) (n w v k : ℕ) (l : Lent n ns) where
   abbrev es : List Entry
   es = from ns 0 n
 
-  found-same : same_found a b ≡ same_value (value_at k w es) (value_at k v es)
-  found-same = ap₂ same_found p q ∙ same-found (value_at k w es) (value_at k v es)
+  pub other-same : same_value (value_at k w es) (value_at k v es) ≡ true → Turned (end_other w v k) ns n ns n
+  other-same h = record { items = sym (ap (λ (c : Bool). pick c es (end_key w k es)) h); lent = l; same = refl }
 
-  pub other-same : same_found a b ≡ true → Turned (end_other w v k) ns n ns n
-  other-same h = record { items = sym (ap (λ (c : Bool). pick c es (end_key w k es)) (sym found-same ∙ h)); lent = l; same = refl }
-
-  pub other-ended : same_found a b ≡ false → (ns' : List ℕ) (r : ℕ) → length ns' ≡ length ns
-      → Gathers kept true ns ns' 0 r (swept (fate w false k) es) → Turned (end_other w v k) ns n ns' r
-  other-ended h ns' r same g = record {
-    items = swept-read (fate w false k) n ns ns' r l g ∙ swept-ended w k es
-        ∙ sym (ap (λ (c : Bool). pick c es (end_key w k es)) (sym found-same ∙ h));
-    lent = record {
-      room = omega (arith, same, l.room, g.count, swept-few (fate w false k) es, from-length ns n);
-      short = omega (arith, same, l.short);
-    };
-    same = same;
-  }
-
-  pub missing-not : a.is ≡ true → Turned (set_missing w v k) ns n ns n
-  missing-not h =
+  pub other-ended : same_value (value_at k w es) (value_at k v es) ≡ false → (ns' : List ℕ) (r : ℕ) → length ns' ≡ length ns
+      → from ns' 0 r ≡ swept (ended w k) es → Turned (end_other w v k) ns n ns' r
+  other-ended h ns' r same g =
+      let few = ap (λ (xs : List Entry). length xs) g in
       record {
-        items = sym (ap (λ (o : Option ℕ). set_as w k o (value_at k v es) es) (found_some (value_at k w es) a p h));
-        lent = l;
-        same = refl;
+        items = g ∙ swept-ended w k es ∙ sym (ap (λ (c : Bool). pick c es (end_key w k es)) h);
+        lent = record {
+          room = omega (arith, same, l.room, few, from-length ns' r, swept-few (ended w k) es, from-length ns n);
+          short = omega (arith, same, l.short);
+        };
+        same = same;
       }
 
-  module _ (h : a.is ≡ false) where
-    at_none : value_at k w es ≡ none
-    at_none = found_none (value_at k w es) a p h
+  pub missing-not : (x : ℕ) → value_at k w es ≡ some x → Turned (set_missing w v k) ns n ns n
+  missing-not x h = record { items = sym (ap (λ (o : Option ℕ). set_as w k o (value_at k v es) es) h); lent = l; same = refl }
 
-    pub missing-none : b.is ≡ false → Turned (set_missing w v k) ns n ns n
-    missing-none i =
-        record {
-          items = sym (ap₂ (λ (o x : Option ℕ). set_as w k o x es) at_none (found_none (value_at k v es) b q i));
-          lent = l;
-          same = refl;
-        }
+  module _ (h : value_at k w es ≡ none) where
+    pub missing-none : value_at k v es ≡ none → Turned (set_missing w v k) ns n ns n
+    missing-none i = record { items = sym (ap₂ (λ (o x : Option ℕ). set_as w k o x es) h i); lent = l; same = refl }
 
-    is_set : b.is ≡ true → set_missing w v k es ≡ set_key w k b.value es
-    is_set i = ap₂ (λ (o x : Option ℕ). set_as w k o x es) at_none (found_some (value_at k v es) b q i)
+    module _ (x : ℕ) (i : value_at k v es ≡ some x) where
+      is_set : set_missing w v k es ≡ set_key w k x es
+      is_set = ap₂ (λ (o y : Option ℕ). set_as w k o y es) h i
 
-    pub missing-room : b.is ≡ true → 4 * length (set_missing w v k es) ≤ length ns → 4 * n + 4 ≤ length ns
-    missing-room i r =
-        let e = ap (λ (xs : List Entry). length xs) (is_set i) in
-        let one = length-append es (born w (pair k b.value) ∷ []) in
-        omega (arith, e, one, from-length ns n, r)
+      pub missing-room : 4 * length (set_missing w v k es) ≤ length ns → 4 * n + 4 ≤ length ns
+      missing-room r =
+          let e = ap (λ (xs : List Entry). length xs) is_set in
+          let one = length-append es (born w (pair k x) ∷ []) in
+          omega (arith, e, one, from-length ns n, r)
 
-    pub missing-set : b.is ≡ true → 4 * n + 4 ≤ length ns
-        → Turned (set_missing w v k) ns n (laid ns n (record { key = k; start = w; end = alive; value = b.value })) (n + 1)
-    missing-set i r =
-        let e : Entry = record { key = k; start = w; end = alive; value = b.value } in
-        record {
-          items = from-behind ns n e r ∙ sym (is_set i);
-          lent = record { room = omega (arith, r, length-laid ns n e); short = omega (arith, l.short, length-laid ns n e) };
-          same = length-laid ns n e;
-        }
+      pub missing-set : 4 * n + 4 ≤ length ns
+          → Turned (set_missing w v k) ns n (laid ns n (record { key = k; start = w; end = alive; value = x })) (n + 1)
+      missing-set r =
+          let e : Entry = record { key = k; start = w; end = alive; value = x } in
+          record {
+            items = from-behind ns n e r ∙ sym is_set;
+            lent = record { room = omega (arith, r, length-laid ns n e); short = omega (arith, l.short, length-laid ns n e) };
+            same = length-laid ns n e;
+          }
 
 -- ---- one key after another
 

@@ -7,13 +7,12 @@ use Rattle.plain.specs.Plain.{value_at}
 use Rattle.plain.specs.Items.{plain_of, from}
 use Rattle.model.specs.Still.{stretches}
 use Rattle.plain.proofs.laws.Lived.{few-stretches, life-five, life-done}
-use borrow.Author.Rules.{rules}
 use Rattle.plain.proofs.life_of.Goals as goal
 
 pub returns-then-key-ge-KEYS : goal.returns-then-key-ge-KEYS
 returns-then-key-ge-KEYS c =
     let a = c.args in
-    rw c.told_as.ensures (life-five (plain_of a.s a.items.now) a.key a.list.now c.if-key-ge-KEYS.true)
+    (life-five (plain_of a.s a.items.now) a.key a.list.now c.if-key-ge-KEYS.true)
 
 pub tell_life-found-requires : goal.tell_life-found-requires
 tell_life-found-requires c =
@@ -39,7 +38,6 @@ overflow_mul-found c =
 pub returns-then-list-found : goal.returns-then-list-found
 returns-then-list-found c =
     let a = c.args in
-    rw c.told_as-then-list-found.ensures
     (told-short stretches c.tell_life-found.ensures c.if-list-found.true
     ∙ life-done (plain_of a.s a.items.now) a.key a.list.now
     (omega (arith, c.if-key-ge-KEYS.false)))
@@ -58,7 +56,6 @@ tell_life-requires c =
 pub returns : goal.returns
 returns c =
     let a = c.args in
-    rw c.told_as-2.ensures
     (told-all stretches c.tell_life-found.ensures
     c.if-list-found.false c.tell_life.ensures
     ∙ life-done (plain_of a.s a.items.now) a.key a.list.now

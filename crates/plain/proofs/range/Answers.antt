@@ -5,23 +5,17 @@ use Rattle.model.proofs.reading.Telling.{none-room, counted, told-short, second-
 use Rattle.plain.specs.Items.{plain_of, from}
 use Rattle.plain.specs.Tell.{pairs}
 use Rattle.plain.proofs.laws.Tell.{settings-few, range-fits, range-five, range-six, range-done}
-use borrow.Author.Rules.{rules}
 use Rattle.plain.proofs.range.Goals as goal
 
 pub returns-then-bad_range : goal.returns-then-bad_range
 returns-then-bad_range c =
     let a = c.args in
-    rw c.told_as.ensures
     (range-five (plain_of a.s a.items.now) a.low a.high a.v a.list.now
     (sym c.bad_range.ensures ∙ c.if-bad_range.true))
-
-pub unreadable-requires : goal.unreadable-requires
-unreadable-requires c = c.requires.version
 
 pub returns-then-unreadable : goal.returns-then-unreadable
 returns-then-unreadable c =
     let a = c.args in
-    rw c.told_as-then-unreadable.ensures
     (range-six (plain_of a.s a.items.now) a.low a.high a.v a.list.now
     (sym c.bad_range.ensures ∙ c.if-bad_range.false)
     (sym c.unreadable.ensures ∙ c.if-unreadable.true))
@@ -52,7 +46,6 @@ overflow_mul-found c =
 pub returns-then-list-found : goal.returns-then-list-found
 returns-then-list-found c =
     let a = c.args in
-    rw c.told_as-then-list-found.ensures
     (told-short pairs c.tell_settings-found.ensures c.if-list-found.true
     ∙ range-done (plain_of a.s a.items.now) a.low a.high a.v a.list.now
     (sym c.bad_range.ensures
@@ -76,7 +69,6 @@ tell_settings-requires c =
 pub returns : goal.returns
 returns c =
     let a = c.args in
-    rw c.told_as-2.ensures
     (told-all pairs c.tell_settings-found.ensures
     c.if-list-found.false c.tell_settings.ensures
     ∙ range-done (plain_of a.s a.items.now) a.low a.high a.v a.list.now

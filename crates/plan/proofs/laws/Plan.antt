@@ -7,6 +7,7 @@ use native.Mathlib.Omega.{arith}
 use lib.Dec.{leb}
 use lib.ListN.{length, get_or}
 use borrow.Author.Tests.{le-leb, lt-leb}
+use Rattle.std.specs.Int.{from_bool}
 use Rattle.model.specs.Basic.{pick, keep}
 use Rattle.model.specs.Page.{Page, active}
 use Rattle.model.specs.Store.{page}
@@ -17,7 +18,6 @@ use Rattle.model.specs.Needs.{fills, actives, takes_in_place, group_at, goes}
 use Rattle.outlook.specs.Plan as plan
 use Rattle.model.specs.Rules.{routers_to}
 use Rattle.model.specs.Page as changes
-use Rattle.edit.specs.Change.{one}
 use Rattle.gather.specs.Gather.{Good, pairs_in}
 use Rattle.gather.proofs.laws.Gather.{length_pairs}
 use Rattle.group.specs.declared.Around.{Around}
@@ -25,8 +25,7 @@ use Rattle.group.specs.declared.Group.{Group}
 use Rattle.group.specs.declared.Numbers.{Numbers}
 use Rattle.group.specs.Group.{around_of, routers_of, group_of}
 use Rattle.group.specs.Numbers.{Numbered}
-use Rattle.plan.specs.declared.Planned.TheVariants.{Fails}
-use Rattle.plan.specs.Plan.{planned_of, nowhere, ups_of}
+use Rattle.plan.specs.Plan.{nowhere, ups_of}
 
 -- ---- a group
 
@@ -35,8 +34,8 @@ module _ (least w : ℕ) (ps : List Page) (g : Group) (z : Good g.all) (u : Numb
   need-is : need ≡ fills least (pairs_in g.all)
   need-is = e ∙ rw (length_pairs g.all z)
 
-  pub group-fails : u.n + left < need → planned_of Fails ≡ plan.plan_group least w ps (group_of g) left
-  unfolding planned_of plan.plan_group plan.spent group_of
+  pub group-fails : u.n + left < need → plan.fails ≡ plan.plan_group least w ps (group_of g) left
+  unfolding plan.plan_group plan.spent group_of
   group-fails h = sym (rw (← need-is, ← v.count, lt-leb need (u.n + left) h))
 
   pub group-rises : (c : changes.Change) → need ≤ u.n + left
@@ -59,12 +58,18 @@ module _ (least w : ℕ) (ps : List Page) (a : walk.Around) (c : changes.Change)
   level-group e = sym (rw e)
 
 module _ (least w : ℕ) (ps : List Page) (r : ℕ) (xs : List Around) (c : changes.Change) (left : ℕ) where
-  pub up_step : (k : ℕ) → 0 < k
+  up_step : (k : ℕ) → 0 < k
       → plan.plan_up least w ps r (ups_of xs k) c left
       ≡ plan.plan_on (plan.plan_work least w ps (around_of (get_or xs (k - 1) nowhere)) c left)
       (λ (c' : changes.Change) (left' : ℕ). plan.plan_up least w ps r (ups_of xs (k - 1)) c' left')
   unfolding plan.plan_up ups_of
   up_step k h = let e : k ≡ suc (k - 1) = omega arith in ap (λ (j : ℕ). plan.plan_up least w ps r (ups_of xs j) c left) e
+
+  -- by what is known of the level
+  pub up-by : (k : ℕ) → 0 < k → (x : plan.Planned) → x ≡ plan.plan_work least w ps (around_of (get_or xs (k - 1) nowhere)) c left
+      → plan.plan_up least w ps r (ups_of xs k) c left
+      ≡ plan.plan_on x (λ (c' : changes.Change) (left' : ℕ). plan.plan_up least w ps r (ups_of xs (k - 1)) c' left')
+  up-by k h x e = up_step k h ∙ rw (← e)
 
   pub up-end : (k : ℕ) → k ≤ 0 → plan.plan_up least w ps r (ups_of xs k) c left ≡ plan.plan_root least w ps r c left
   unfolding plan.plan_up ups_of
@@ -72,10 +77,10 @@ module _ (least w : ℕ) (ps : List Page) (r : ℕ) (xs : List Around) (c : chan
 
 -- ---- the root
 
-active-one : (w : ℕ) (ps : List Page) (r : ℕ) → length (actives w ps (pair 0 r ∷ [])) ≡ one (active w (page ps r))
+active-one : (w : ℕ) (ps : List Page) (r : ℕ) → length (actives w ps (pair 0 r ∷ [])) ≡ from_bool (active w (page ps r))
 active-one w ps r = by (active w (page ps r))
   where
-    by : (b : Bool) → length (keep b r []) ≡ one b
+    by : (b : Bool) → length (keep b r []) ≡ from_bool b
     by true = refl
     by false = refl
 
@@ -93,7 +98,7 @@ module _ (least w : ℕ) (ps : List Page) (r : ℕ) (c : changes.Change) (left :
   root-stays e f = sym (rw (e, f))
 
   module _ (e : goes w c (page ps r) ≡ false) (f : rules.roomy least w c (page ps r) ≡ false) (have need : ℕ)
-      (h : have ≡ one (active w (page ps r)) + left) (n : need ≡ plan.root_fills least (changes.wanted w c (page ps r))) where
+      (h : have ≡ from_bool (active w (page ps r)) + left) (n : need ≡ plan.root_fills least (changes.wanted w c (page ps r))) where
     pub root-lacks : have < need → plan.lacks_page ≡ plan.plan_root least w ps r c left
     unfolding plan.plan_root plan.root_by
     root-lacks lt = sym (rw (e, f, active-one w ps r, ← h, ← n, lt-leb need have lt))

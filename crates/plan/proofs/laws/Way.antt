@@ -5,15 +5,17 @@ use mathlib.Core.Bool.{Bool, true, false}
 use mathlib.Core.Option.{Option, some}
 use mathlib.Core.Logic.{⊎_elim}
 use mathlib.Core.List.{List, [], ◌∷◌}
+use Rattle.std.specs.Prelude.{Option as Maybe, None, Some}
 use Rattle.bits.proofs.laws.Put.{less}
 use native.Mathlib.Numerals.{add-one}
 use native.Mathlib.Omega.{arith}
 use lib.Dec.{leb, ltb}
 use lib.ListN.{length, get_or, set, drop, replicate, length-set, length-replicate}
 use lib.Seq.{drop-cons, get_or-set_same, get_or-set_other}
-use borrow.Author.Tests.{le-leb, lt-leb, le-ltb, leb-false}
+use borrow.Author.Tests.{le-leb, lt-leb, le-ltb}
 use Rattle.model.specs.declared.Pair.{Pair}
 use Rattle.model.specs.Walk as walk
+use Rattle.model.specs.Refusals.{found_in}
 use Rattle.model.proofs.lists.Members.{in-get_or}
 use Rattle.edit.specs.Fill.{nil, Fitting}
 use Rattle.gather.specs.declared.Gather.{Gather}
@@ -33,9 +35,9 @@ use Rattle.model.proofs.sound.Ready.{level-used}
 use Rattle.parts.specs.Kept.{Inside, pages_of}
 use Rattle.parts.proofs.laws.Kept.{inside-used}
 use Rattle.group.specs.declared.Around.{Around}
-use Rattle.group.specs.Group.{beside, around_of, Router, Placed}
+use Rattle.group.specs.Group.{around_of, Router, Placed}
 use Rattle.plan.specs.Plan.{nowhere, ups_of}
-use Rattle.plan.specs.Way.{place_at, Among, Leads}
+use Rattle.plan.specs.Way.{beside, place_at, Among, Leads}
 
 -- what is left to look through behind the i-th
 unfoldable pub looked_from : ℕ → List Pair → ℕ → walk.Around
@@ -85,34 +87,41 @@ module _ (k : ℕ) (xs : List Pair) (i : ℕ) where
 
 -- as it is taken from a list by value
 module _ (g : Gather) (z : Good g) (i : ℕ) (one : 1 ≤ i) (le : i ≤ g.n) where
-  abbrev pub taken : ℕ → Around
-  taken p =
-      record {
-        leftmost = ltb i 2;
-        left = get_or g.list p nil;
-        own = get_or g.list (i - 1) nil;
-        rightmost = leb g.n i;
-        right = get_or g.list i nil;
-      }
+  -- a neighbour as it is taken from the list, if the place is not the outermost on that side
+  pub record Taken (outer : Bool) (k : ℕ) (o : Maybe Pair) : Type 0 where
+    pub none : outer ≡ true → o ≡ None
+    pub some : outer ≡ false → (k < g.n) × (o ≡ Some (get_or g.list k nil))
 
-  pub taken_is : (p : ℕ) → p ≡ i - 2 → around_of (taken p) ≡ place_at (pairs_in g) i
-  unfolding around_of place_at
-  taken_is p e =
-      rw (e, length_pairs g z, pair-at g (i - 2) (omega arith), pair-at g (i - 1) (omega arith))
-      (ap (λ (x : Option Pair).
-      record { left = beside (ltb i 2) (get_or g.list (i - 2) nil); own = get_or g.list (i - 1) nil; right = x })
-      (at (leb g.n i) refl))
-    where
-      at : (b : Bool) → leb g.n i ≡ b → beside b (get_or g.list i nil) ≡ beside b (get_or (pairs_in g) i nil)
-      at true h = refl
-      at false h = rw (pair-at g i (leb-false g.n i h))
+  taken-beside : (b : Bool) (k : ℕ) (o : Maybe Pair) → Taken b k o → found_in o ≡ beside b (get_or (pairs_in g) k nil)
+  taken-beside true k o t = rw (t.none refl)
+  taken-beside false k o t = let (h, e) = t.some refl in rw (e, pair-at g k h)
 
   member : (k : ℕ) → k < g.n → In (get_or g.list k nil) (pairs_in g) × Fitting (get_or g.list k nil)
   member k h = (rw (← pair-at g k h) (in-get_or nil (pairs_in g) k (omega (arith, length_pairs g z))), z.fits k)
 
-  pub taken-among : (p : ℕ) → p ≡ i - 2 → Among (pairs_in g) (taken p)
-  taken-among p e =
-      record { own = member (i - 1) (omega arith); left = member p (omega arith); right = λ h. member i (leb-false g.n i h) }
+  taken-member : (b : Bool) (k : ℕ) (o : Maybe Pair) → Taken b k o → (x : Pair) → o ≡ Some x → In x (pairs_in g) × Fitting x
+  taken-member true k o t x e = absurd (let f = t.none refl in let h : None ≡ Some x = sym f ∙ e in cc)
+  taken-member false k o t x e =
+      let (h, f) = t.some refl in
+      let q : get_or g.list k nil ≡ x = cc in
+      rw (← q) (member k h)
+
+  module _ (left right : Maybe Pair) (p : Taken (ltb i 2) (i - 2) left) (q : Taken (leb g.n i) i right) where
+    abbrev pub taken : Around
+    taken = record { left = left; own = get_or g.list (i - 1) nil; right = right }
+
+    pub taken_is : around_of taken ≡ place_at (pairs_in g) i
+    unfolding around_of place_at
+    taken_is =
+        rw (taken-beside (ltb i 2) (i - 2) left p, taken-beside (leb g.n i) i right q, length_pairs g z, pair-at g (i - 1) (omega arith))
+
+    pub taken-among : Among (pairs_in g) taken
+    taken-among =
+        record {
+          own = member (i - 1) (omega arith);
+          left = taken-member (ltb i 2) (i - 2) left p;
+          right = taken-member (leb g.n i) i right q;
+        }
 
 ups-before : (xs : List Around) (n m : ℕ) (a : Around) → m ≤ n → ups_of (set xs n a) m ≡ ups_of xs m
 unfolding ups_of
@@ -158,7 +167,7 @@ module _ {l : Limits} {b : List ℕ} {w : ℕ} (r : Walkable l b w) (up n k : �
 
   pub placed : (a : Around) → Among (pairs_at w (page (pages_of l b) n)) a → Placed l b a
   placed a m =
-      record { own = router a.own m.own; left = λ e. router a.left m.left; right = λ e. router a.right (m.right e) }
+      record { own = router a.own m.own; left = λ x e. router x (m.left x e); right = λ x e. router x (m.right x e) }
 
 pub some-live : (k : ℕ) (xs : List Pair) → starts_by k xs ≡ true → 0 < length xs
 some-live k [] e = absurd (let z : ◌≡◌ {A = ℕ} 0 1 = cc in omega arith)

@@ -1,16 +1,13 @@
-use Rattle.plan.specs.Plan.{planned_of, outlook_of, ups_of}
-use Rattle.plan.proofs.laws.Plan.{up_step, up-end}
+use Rattle.plan.specs.Plan.{planned_of, outlook_of}
+use Rattle.plan.proofs.laws.Plan.{up-by, up-end}
 use Rattle.parts.specs.Kept.{pages_of}
-use Rattle.gather.specs.Kept.{Fits}
 use Rattle.edit.specs.Change.{change_of}
-use Rattle.outlook.specs.Plan.{plan_up, plan_on}
-use Rattle.outlook.specs.Plan as plan
-use Rattle.model.specs.Page as changes
-use mathlib.Core.Path.{◌≡◌, refl, ap, sym, ◌∙◌}
+use Rattle.std.proofs.lemmas.Result.{err_from_is_err_and}
+use mathlib.Core.Path.{refl, sym, ◌∙◌}
 use native.Mathlib.Omega.{arith}
-use Prim.Native.Nat.{ℕ, ◌+◌, ◌*◌, ◌-◌, ◌≤◌}
-use borrow.Author.Rules.{rules}
+use Prim.Native.Nat.{◌-◌}
 use Rattle.plan.proofs.plan_up.Goals as goal
+use Rattle.plan.proofs.plan_up.Goals.{After-plan_level}
 
 pub loop-k-init : goal.loop-k-init
 loop-k-init c = (omega arith, c.requires.2, omega arith, refl)
@@ -26,42 +23,34 @@ plan_level-requires c = (
   omega (arith, c.loop-k.invariant.2, c.requires.3, c.requires.1.few),
 )
 
-pub returns-in-Settles : goal.returns-in-Settles
+pub returns-in_err-e : goal.returns-in_err-e
 unfolding planned_of outlook_of
-returns-in-Settles c =
-    let ps = pages_of c.args.l c.args.s.now in
-    let e = rw c.in-Settles.is at c.plan_level.ensures.0 in
-    sym (c.loop-k.invariant.3 ∙ up_step c.args.l.least c.args.w ps c.args.way.root
-    c.args.way.list (change_of c.loop-k.d) c.loop-k.free c.loop-k.k (omega arith)
-    ∙ ap (λ (x : plan.Planned). plan_on x
-    (λ (c' : changes.Change) (m : ℕ). plan_up c.args.l.least c.args.w ps c.args.way.root
-    (ups_of c.args.way.list (c.loop-k.k - 1)) c' m)) (sym e))
-
-pub returns-in-Fails : goal.returns-in-Fails
-unfolding planned_of outlook_of
-returns-in-Fails c =
-    let ps = pages_of c.args.l c.args.s.now in
-    let e = rw c.in-Fails.is at c.plan_level.ensures.0 in
-    sym (c.loop-k.invariant.3 ∙ up_step c.args.l.least c.args.w ps c.args.way.root
-    c.args.way.list (change_of c.loop-k.d) c.loop-k.free c.loop-k.k (omega arith)
-    ∙ ap (λ (x : plan.Planned). plan_on x
-    (λ (c' : changes.Change) (m : ℕ). plan_up c.args.l.least c.args.w ps c.args.way.root
-    (ups_of c.args.way.list (c.loop-k.k - 1)) c' m)) (sym e))
+returns-in_err-e c =
+    let p = err_from_is_err_and c.from_residual.result c.from_residual.ensures.1 in
+    rw (p.1, p.2) (
+      sym (c.loop-k.invariant.3 ∙ up-by c.args.l.least c.args.w (pages_of c.args.l c.args.s.now) c.args.way.root
+          c.args.way.list (change_of c.loop-k.d) c.loop-k.free c.loop-k.k (omega arith) _ c.in_err-e.ensures.0),
+      c.in_err-e.ensures.2,
+    )
 
 pub loop-k-preserved : goal.loop-k-preserved
 unfolding planned_of
 loop-k-preserved c =
-    let ps = pages_of c.args.l c.args.s.now in
-    let e = rw c.in-Rises.is at c.plan_level.ensures.0 in
-    let f = rw c.in-Rises.is at c.plan_level.ensures.1 in (
+    let z = rw c.in-Some.is at c.in_ok-e.ensures in (
       omega arith,
-      f.0,
-      omega (arith, f.1, c.loop-k.invariant.2),
-      c.loop-k.invariant.3 ∙ up_step c.args.l.least c.args.w ps c.args.way.root
-          c.args.way.list (change_of c.loop-k.d) c.loop-k.free c.loop-k.k (omega arith)
-          ∙ ap (λ (x : plan.Planned). plan_on x
-          (λ (c' : changes.Change) (m : ℕ). plan_up c.args.l.least c.args.w ps c.args.way.root
-          (ups_of c.args.way.list (c.loop-k.k - 1)) c' m)) (sym e),
+      z.1.0,
+      omega (arith, z.1.1, c.loop-k.invariant.2),
+      c.loop-k.invariant.3 ∙ up-by c.args.l.least c.args.w (pages_of c.args.l c.args.s.now) c.args.way.root
+          c.args.way.list (change_of c.loop-k.d) c.loop-k.free c.loop-k.k (omega arith) _ z.0,
+    )
+
+pub returns-in-None : goal.returns-in-None
+unfolding planned_of outlook_of
+returns-in-None c =
+    let z = rw c.in-None.is at c.in_ok-e.ensures in (
+      sym (c.loop-k.invariant.3 ∙ up-by c.args.l.least c.args.w (pages_of c.args.l c.args.s.now) c.args.way.root
+          c.args.way.list (change_of c.loop-k.d) c.loop-k.free c.loop-k.k (omega arith) _ z.0),
+      tt,
     )
 
 pub plan_root-requires : goal.plan_root-requires
@@ -73,8 +62,9 @@ plan_root-requires c = (
 )
 
 pub returns : goal.returns
-returns c =
-    let ps = pages_of c.args.l c.args.s.now in
-    c.plan_root.ensures
-    ∙ sym (c.loop-k.invariant.3 ∙ up-end c.args.l.least c.args.w ps c.args.way.root
-    c.args.way.list (change_of c.loop-k.d) c.loop-k.free c.loop-k.k (omega arith))
+returns c = (
+  c.plan_root.ensures.0
+      ∙ sym (c.loop-k.invariant.3 ∙ up-end c.args.l.least c.args.w (pages_of c.args.l c.args.s.now) c.args.way.root
+      c.args.way.list (change_of c.loop-k.d) c.loop-k.free c.loop-k.k (omega arith)),
+  c.plan_root.ensures.1,
+)

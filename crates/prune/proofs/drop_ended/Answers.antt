@@ -1,7 +1,7 @@
 -- `drop_ended` meets its contract. Assumes nothing.
+use Rattle.model.proofs.Edition.{edition}
 use native.Mathlib.Omega.{arith}
 use mathlib.Core.Path.{ap, sym, ◌∙◌}
-use borrow.Author.Rules.{rules}
 use Rattle.model.specs.Layout.{encode_page, decode_page}
 use Rattle.model.specs.Field.{zeros}
 use Rattle.page.specs.declared.Head.{Head}
@@ -12,17 +12,16 @@ use Rattle.prune.proofs.drop_ended.Goals as goal
 
 pub head_of-front-requires : goal.head_of-front-requires
 head_of-front-requires c = (
-  c.requires.0,
-  omega (arith, c.requires.0.four, c.requires.1.size),
-  omega (arith, c.requires.0.eight, c.requires.1.size),
+  omega (arith, (edition c.args.l).four, c.requires.size),
+  omega (arith, (edition c.args.l).eight, c.requires.size),
 )
 
 pub returns-then-front-v : goal.returns-then-front-v
 returns-then-front-v c =
     let a = c.args in
-    let d = c.requires.0 in
+    let d = edition c.args.l in
     let e = end-of a.l.least a.page.now ∙ sym (ap (λ (h : Head). h.end) c.head_of-front.ensures) in
-    c.clear.ensures ∙ ap zeros c.requires.1.size ∙ sym (free-zeros a.l.least d.four d.eight)
+    c.clear.ensures ∙ ap zeros c.requires.size ∙ sym (free-zeros a.l.least d.four d.eight)
     ∙ sym (ap (encode_page a.l.least)
     (pruned-yes a.v (decode_page a.l.least a.page.now) (omega (arith, e, c.if-front-v.true))))
 
@@ -30,5 +29,5 @@ pub returns-else-front-v : goal.returns-else-front-v
 returns-else-front-v c =
     let a = c.args in
     let e = end-of a.l.least a.page.now ∙ sym (ap (λ (h : Head). h.end) c.head_of-front.ensures) in
-    sym c.requires.1.same
+    sym c.requires.same
     ∙ sym (ap (encode_page a.l.least) (pruned-no a.v (decode_page a.l.least a.page.now) (omega (arith, e, c.if-front-v.false))))

@@ -1,12 +1,12 @@
 -- `prune_pages` meets its contract. Assumes nothing.
-use Prim.Native.Nat.{◌-◌, ◌≤◌, ◌<◌}
+use Rattle.model.proofs.Edition.{edition}
+use Prim.Native.Nat.{◌<◌}
 use native.Mathlib.Omega.{arith}
-use mathlib.Core.Path.{◌≡◌, refl, sym, ◌∙◌}
+use mathlib.Core.Path.{refl, sym, ◌∙◌}
 use lib.ListN.{length}
-use borrow.Author.Rules.{rules}
 use Rattle.model.specs.Layout.{decode}
 use Rattle.model.specs.Calls.{pruned_page}
-use Rattle.turn.proofs.laws.Rewritten.{Rewritten, rewritten-start, rewritten-short, rewritten-end, rewritten-part, rewritten-exact}
+use Rattle.turn.proofs.laws.Rewritten.{rewritten-start, rewritten-short, rewritten-end, rewritten-part, rewritten-exact}
 use Rattle.turn.proofs.laws.Rewritten.{rewritten-step}
 use Rattle.prune.proofs.laws.Pages.{free-pruned, valid-pruned}
 use Rattle.prune.proofs.prune_pages.Goals as goal
@@ -14,11 +14,11 @@ use Rattle.prune.proofs.prune_pages.Goals as goal
 pub loop-n-init : goal.loop-n-init
 loop-n-init c =
     let a = c.args in
-    let k = c.requires.1 in (
+    let k = c.requires.0 in (
       omega arith,
-      omega (arith, k.holds.five, c.requires.2),
+      omega (arith, k.holds.five, c.requires.1),
       refl,
-      rewritten-start a.l.least c.requires.0.four c.requires.0.eight (pruned_page a.v)
+      rewritten-start a.l.least (edition c.args.l).four (edition c.args.l).eight (pruned_page a.v)
           (decode a.l.least a.s.now) (free-pruned a.v) a.s.now (sym k.same) k.holds,
     )
 
@@ -26,10 +26,9 @@ pub prune_page-requires : goal.prune_page-requires
 prune_page-requires c =
     let a = c.args in
     let l = c.loop-n in
-    let d = c.requires.0 in
+    let d = edition c.args.l in
     let st = decode a.l.least a.s.now in
-    let low : l.n < length st.pages = omega (arith, c.loop-n-test.true, c.requires.2) in (
-      d,
+    let low : l.n < length st.pages = omega (arith, c.loop-n-test.true, c.requires.1) in (
       rewritten-part a.l.least d.four d.eight (pruned_page a.v) st l.n l.s l.invariant.3 l.invariant.0 low,
       rewritten-short a.l.least d.four d.eight (pruned_page a.v) st l.n l.s l.invariant.3,
       rewritten-exact a.l.least d.four d.eight (pruned_page a.v) st l.n l.s l.invariant.3 l.invariant.0 low,
@@ -39,9 +38,9 @@ pub loop-n-preserved : goal.loop-n-preserved
 loop-n-preserved c =
     let a = c.args in
     let l = c.loop-n in
-    let d = c.requires.0 in
+    let d = edition c.args.l in
     let st = decode a.l.least a.s.now in
-    let low : l.n < length st.pages = omega (arith, c.loop-n-test.true, c.requires.2) in (
+    let low : l.n < length st.pages = omega (arith, c.loop-n-test.true, c.requires.1) in (
       omega (arith, l.invariant.0),
       omega (arith, c.loop-n-test.true),
       c.prune_page.auto.s ∙ l.invariant.2,
@@ -56,6 +55,6 @@ pub returns : goal.returns
 returns c =
     let a = c.args in
     let l = c.loop-n in
-    let d = c.requires.0 in
+    let d = edition c.args.l in
     rewritten-end a.l.least d.four d.eight (pruned_page a.v) (decode a.l.least a.s.now) l.n l.s l.invariant.3
-    (omega (arith, c.loop-n-test.false, c.requires.2))
+    (omega (arith, c.loop-n-test.false, c.requires.1))

@@ -1,11 +1,11 @@
 -- `shift_slots` meets its contract. Assumes nothing.
-use Prim.Native.Nat.{◌-◌, ◌≤◌}
+use Rattle.model.proofs.Edition.{edition}
+use Prim.Native.Nat.{◌≤◌}
 use native.Mathlib.Omega.{arith}
-use mathlib.Core.Path.{◌≡◌, refl, sym, ◌∙◌}
+use mathlib.Core.Path.{refl, sym, ◌∙◌}
 use lib.ListN.{length}
-use borrow.Author.Rules.{rules}
 use Rattle.model.specs.Layout.{decode}
-use Rattle.prune.proofs.laws.Whole.{Shifted, shifted_start, shifted-kept, shifted-roots, shifted_step, shifted_end}
+use Rattle.prune.proofs.laws.Whole.{shifted_start, shifted-kept, shifted-roots, shifted_step, shifted_end}
 use Rattle.prune.proofs.shift_slots.Goals as goal
 
 pub loop-i-init : goal.loop-i-init
@@ -14,8 +14,8 @@ loop-i-init c =
     let p = c.requires in (
       omega arith,
       refl,
-      shifted_start a.l.least p.0.four p.0.eight (decode a.l.least a.s.now) a.k
-          (omega (arith, p.2, p.3)) a.s.now (sym p.1.same) p.1.holds,
+      shifted_start a.l.least (edition c.args.l).four (edition c.args.l).eight (decode a.l.least a.s.now) a.k
+          (omega (arith, p.1, p.2)) a.s.now (sym p.0.same) p.0.holds,
     )
 
 pub shift_slot-requires : goal.shift_slot-requires
@@ -24,11 +24,10 @@ shift_slot-requires c =
     let p = c.requires in
     let l = c.loop-i in
     let st = decode a.l.least a.s.now in
-    let low : a.k ≤ length st.slots = omega (arith, p.2, p.3) in (
-      p.0,
-      shifted-kept a.l.least p.0.four p.0.eight st a.k low l.i l.s l.invariant.2,
-      p.2 ∙ sym (shifted-roots a.l.least p.0.four p.0.eight st a.k low l.i l.s l.invariant.2),
-      p.3,
+    let low : a.k ≤ length st.slots = omega (arith, p.1, p.2) in (
+      shifted-kept a.l.least (edition c.args.l).four (edition c.args.l).eight st a.k low l.i l.s l.invariant.2,
+      p.1 ∙ sym (shifted-roots a.l.least (edition c.args.l).four (edition c.args.l).eight st a.k low l.i l.s l.invariant.2),
+      p.2,
       c.loop-i-test.true,
     )
 
@@ -38,11 +37,11 @@ loop-i-preserved c =
     let p = c.requires in
     let l = c.loop-i in
     let st = decode a.l.least a.s.now in
-    let low : a.k ≤ length st.slots = omega (arith, p.2, p.3) in (
+    let low : a.k ≤ length st.slots = omega (arith, p.1, p.2) in (
       omega (arith, c.loop-i-test.true),
       c.shift_slot.auto.s ∙ l.invariant.1,
-      shifted_step a.l.least p.0.four p.0.eight st a.k low l.i l.s l.invariant.2
-          (omega (arith, c.loop-i-test.true, p.2)) _ c.shift_slot.ensures,
+      shifted_step a.l.least (edition c.args.l).four (edition c.args.l).eight st a.k low l.i l.s l.invariant.2
+          (omega (arith, c.loop-i-test.true, p.1)) _ c.shift_slot.ensures,
     )
 
 pub shape_of-s : goal.shape_of-s
@@ -53,5 +52,5 @@ returns c =
     let a = c.args in
     let p = c.requires in
     let l = c.loop-i in
-    shifted_end a.l.least p.0.four p.0.eight (decode a.l.least a.s.now) a.k (omega (arith, p.2, p.3)) l.i l.s
-    l.invariant.2 (omega (arith, c.loop-i-test.false, p.2))
+    shifted_end a.l.least (edition c.args.l).four (edition c.args.l).eight (decode a.l.least a.s.now) a.k (omega (arith, p.1, p.2)) l.i l.s
+    l.invariant.2 (omega (arith, c.loop-i-test.false, p.1))

@@ -38,24 +38,10 @@ module _ (least : ℕ) (b : List ℕ) where
   unfolding quick_in
   in-first x = rw x
 
-  module _ (x : clean least b ≡ true) where
-    pub in-second : rule2 (decode least b) ≡ false → quick_in least b ≡ false
-    unfolding quick_in
-    in-second y = rw (x, y)
-
-    module _ (y : rule2 (decode least b) ≡ true) where
-      pub in-third : rule3 (decode least b) ≡ false → quick_in least b ≡ false
-      unfolding quick_in
-      in-third z = rw (x, y, z)
-
-      module _ (z : rule3 (decode least b) ≡ true) where
-        pub in-quick : quick least (decode least b) ≡ false → quick_in least b ≡ false
-        unfolding quick_in
-        in-quick u = rw (x, y, z, u)
-
-        pub in_rest : quick least (decode least b) ≡ true → quick_in least b ≡ rule7 (decode least b)
-        unfolding quick_in
-        in_rest u = rw (x, y, z, u)
+  pub in_rest : clean least b ≡ true → quick_in least b
+      ≡ (rule2 (decode least b) && rule3 (decode least b) && quick least (decode least b) && rule7 (decode least b))
+  unfolding quick_in
+  in_rest x = rw x
 
   pub in_clean : quick_in least b ≡ true → clean least b ≡ true
   unfolding quick_in

@@ -1,82 +1,72 @@
 -- Laws about quick/specs/Part. Assumes nothing.
-use Prim.Native.Nat.{ℕ, zero, suc, ◌+◌, ◌*◌, ◌-◌, ◌<◌, ◌≤◌, min}
+use Prim.Native.Nat.{ℕ, ◌+◌, ◌*◌, ◌-◌, ◌<◌, ◌≤◌}
 use mathlib.Core.Bool.{Bool, true, false, ◌&&◌, ◌||◌, not}
-use mathlib.Core.Path.{◌≡◌, refl, ap, sym, ◌∙◌, subst}
-use mathlib.Core.Logic.{◌⊎◌, inl, inr}
+use mathlib.Core.Path.{◌≡◌, refl, ap, sym, ◌∙◌}
 use mathlib.Core.List.{List, [], ◌∷◌}
+use Rattle.std.specs.Prelude.{Option, Some, None, MatchOption}
 use native.Mathlib.Omega.{arith}
-use lib.Dec.{leb, ltb, eqb}
+use lib.Dec.{ltb, eqb}
 use lib.ListN.{length}
-use borrow.Author.Tests.{le-leb, lt-leb, le-ltb, lt-ltb, leb-true, leb-false, ne_eqb}
-use Rattle.bits.proofs.laws.Put.{less}
+use borrow.Author.Tests.{le-ltb, lt-ltb}
 use Rattle.model.specs.declared.Entry.{Entry}
 use Rattle.model.specs.Basic.{all, those, keep, pick, in_order}
 use Rattle.model.specs.Entry.{before}
 use Rattle.model.specs.Layout.{read_entry, read_entries, decode_page}
 use Rattle.spans.specs.Quick.{past, past_all, kept, apart, low_over, key_over, many_over, fine_over}
-use Rattle.model.specs.Inner.{first_ok, In}
+use Rattle.model.specs.Inner.{first_ok}
 use Rattle.model.proofs.lists.Lists.{both_true}
-use Rattle.model.proofs.lists.Members.{in-those}
 use Rattle.spans.proofs.laws.Neighbours.{apart-neighbours}
 use Rattle.spans.proofs.laws.Stretches.{kept-order}
 use Rattle.page.specs.declared.Head.{Head}
 use Rattle.page.specs.Head.{read_head}
-use Rattle.page.proofs.laws.Read.{level-of, entries-of, entries-step, entries-end, read-sized}
-
--- ---- from a on no entry leads back
-
-pub leb-min : (m x : ℕ) → leb m (min m x) ≡ leb m x
-leb-min m x = at (less x m)
-  where
-    at : (x < m) ⊎ (m ≤ x) → leb m (min m x) ≡ leb m x
-    at (inl l) = lt-leb m (min m x) (omega arith) ∙ sym (lt-leb m x l)
-    at (inr l) = le-leb m (min m x) (omega arith) ∙ sym (le-leb m x l)
+use Rattle.page.proofs.laws.Read.{level-of, entries-of, entries-step, entries-end}
 
 -- ---- "No live key stands twice in a page": each entry that is kept against the next one
 
--- d against the first of those kept, and each of them against the next
-abbrev pub behind : ℕ → Entry → List Entry → Bool
-behind old d es = first_ok apart d (kept old es) && in_order apart (kept old es)
+-- d, if there is one, against the first of those kept, and each of them against the next
+abbrev pub behind : ℕ → Option Entry → List Entry → Bool
+behind old None es = in_order apart (kept old es)
+behind old (Some d) es = first_ok apart d (kept old es) && in_order apart (kept old es)
 
-behind-one : (old : ℕ) (d e : Entry) (es : List Entry) → in_order before (e ∷ es) ≡ true
-    → behind old d (e ∷ es) ≡ ((leb e.end old || apart d e) && behind old (pick (leb e.end old) d e) es)
-behind-one old d e es o = at (leb e.end old) refl
-  where
-    at : (t : Bool) → leb e.end old ≡ t
-        → (first_ok apart d (keep (ltb old e.end) e (kept old es)) && in_order apart (keep (ltb old e.end) e (kept old es)))
-        ≡ ((t || apart d e) && behind old (pick t d e) es)
-    at true q =
-        ap (λ (b : Bool). first_ok apart d (keep b e (kept old es)) && in_order apart (keep b e (kept old es)))
-        (le-ltb old e.end (leb-true e.end old q))
-    at false q =
-        let late = lt-ltb old e.end (leb-false e.end old q) in
-        let ordered : in_order before (e ∷ kept old es) ≡ true = ap (λ (b : Bool). in_order before (keep b e (kept old es))) (sym late)
-        ∙ kept-order old before (e ∷ es) o in
-        let rest : in_order before (kept old es) ≡ true
-        = (both_true (all (before e) (kept old es)) (in_order before (kept old es)) ordered).1 in
-        ap (λ (b : Bool). first_ok apart d (keep b e (kept old es)) && in_order apart (keep b e (kept old es))) late
-        ∙ ap (λ (b : Bool). apart d e && b)
-        (apart-neighbours (e ∷ kept old es) ordered
-        ∙ ap (λ (b : Bool). first_ok apart e (kept old es) && b) (sym (apart-neighbours (kept old es) rest)))
+-- e behind d, if there is one
+abbrev pub apart_from : Option Entry → Entry → Bool
+apart_from None e = true
+apart_from (Some d) e = apart d e
 
-small : (p : List ℕ) (o k : ℕ) (e : Entry) → In e (read_entries p o k) → e.key < 16777216
-unfolding read_entries
-small p o zero e i = absurd i
-small p o (suc k) e (inl q) = subst (λ (x : Entry). x.key < 16777216) (sym q) (read-sized p o).key
-small p o (suc k) e (inr i) = small p (o + 96) k e i
+-- what `is_some_and` tells
+pub apart-by : (d : Option Entry) (e : Entry) (r : Bool) {P : Entry → Type 0} → MatchOption d (r ≡ false) P
+    → ((x : Entry) → P x → r ≡ not (apart x e)) → r ≡ not (apart_from d e)
+apart-by None e r q f = q
+apart-by (Some d) e r q f = f d q
 
--- before the first one: no key is as large as that of nobody
-pub behind-start : (old : ℕ) (d : Entry) (p : List ℕ) (n : ℕ) → 16777216 ≤ d.key
-    → in_order apart (kept old (read_entries p 128 n)) ≡ behind old d (read_entries p 128 n)
-behind-start old d p n h =
-    sym (ap (λ (b : Bool). b && in_order apart (kept old (read_entries p 128 n))) (first (read_entries p 128 n) (small p 128 n)))
-  where
-    first : (es : List Entry) → ((e : Entry) → In e es → e.key < 16777216) → first_ok apart d (kept old es) ≡ true
-    first es f = at (kept old es) (λ e i. f e (in-those (λ (x : Entry). ltb old x.end) e es i).1)
-      where
-        at : (xs : List Entry) → ((e : Entry) → In e xs → e.key < 16777216) → first_ok apart d xs ≡ true
-        at [] g = refl
-        at (x ∷ xs) g = ap (λ (b : Bool). not b || leb d.end x.start) (ne_eqb d.key x.key (λ z. omega (arith, g x (inl refl))))
+module _ (old : ℕ) (e : Entry) (es : List Entry) where
+  abbrev whole : Option Entry → Bool → Bool
+  whole None b = in_order apart (keep b e (kept old es))
+  whole (Some d) b = first_ok apart d (keep b e (kept old es)) && in_order apart (keep b e (kept old es))
+
+  by : (d : Option Entry) (b : Bool) → ltb old e.end ≡ b → behind old d (e ∷ es) ≡ whole d b
+  by None b q = ap (λ (b : Bool). whole None b) q
+  by (Some d) b q = ap (λ (b : Bool). whole (Some d) b) q
+
+  behind-late : old < e.end → (d : Option Entry) → in_order before (e ∷ es) ≡ true
+      → behind old d (e ∷ es) ≡ (apart_from d e && behind old (Some e) es)
+  behind-late l d o = by d true late ∙ at d
+    where
+      late : ltb old e.end ≡ true
+      late = lt-ltb old e.end l
+
+      ordered : in_order before (e ∷ kept old es) ≡ true
+      ordered = ap (λ (b : Bool). in_order before (keep b e (kept old es))) (sym late) ∙ kept-order old before (e ∷ es) o
+
+      next : in_order apart (e ∷ kept old es) ≡ behind old (Some e) es
+      next =
+          apart-neighbours (e ∷ kept old es) ordered
+          ∙ ap (λ (b : Bool). first_ok apart e (kept old es) && b)
+          (sym (apart-neighbours (kept old es) (both_true (all (before e) (kept old es)) (in_order before (kept old es)) ordered).1))
+
+      at : (d : Option Entry) → whole d true ≡ (apart_from d e && behind old (Some e) es)
+      at None = next
+      at (Some d) = ap (λ (b : Bool). apart d e && b) next
 
 -- ---- what is left from place i on
 
@@ -117,21 +107,28 @@ module _ (p : List ℕ) (i n : ℕ) where
     pub count-end : n ≤ i → length (those f here) ≡ 0
     count-end h = ap (λ (es : List Entry). length (those f es)) (entries-end p (128 + 96 * i) i n h)
 
-  -- those kept, behind the entry d
-  pub apart-step : (old : ℕ) (d : Entry) → i < n → in_order before here ≡ true
-      → behind old d here ≡ ((leb e.end old || apart d e) && behind old (pick (leb e.end old) d e) rest)
-  apart-step old d h o =
-      ap (behind old d) (entries-step p i n h) ∙ behind-one old d e rest (ap (in_order before) (sym (entries-step p i n h)) ∙ o)
+  -- those kept, behind the last one before them
+  module _ (old : ℕ) (d : Option Entry) where
+    pub apart-late : old < e.end → i < n → in_order before here ≡ true → behind old d here ≡ (apart_from d e && behind old (Some e) rest)
+    apart-late l h o =
+        ap (behind old d) (entries-step p i n h) ∙ behind-late old e rest l d (ap (in_order before) (sym (entries-step p i n h)) ∙ o)
 
-  pub apart-end : (old : ℕ) (d : Entry) → n ≤ i → behind old d here ≡ true
-  apart-end old d h = ap (behind old d) (entries-end p (128 + 96 * i) i n h)
+    pub apart-ended : e.end ≤ old → i < n → behind old d here ≡ behind old d rest
+    apart-ended l h = ap (behind old d) (entries-step p i n h) ∙ by old e rest d false (le-ltb old e.end l) ∙ at d
+      where
+        at : (d : Option Entry) → whole old e rest d false ≡ behind old d rest
+        at None = refl
+        at (Some d) = refl
+
+    pub apart-end : n ≤ i → behind old d here ≡ true
+    apart-end h = ap (behind old d) (entries-end p (128 + 96 * i) i n h) ∙ at d
+      where
+        at : (d : Option Entry) → behind old d [] ≡ true
+        at None = refl
+        at (Some d) = refl
 
   pub order-step : i < n → in_order before here ≡ true → in_order before rest ≡ true
   order-step h o = (both_true (all (before e) rest) (in_order before rest) (ap (in_order before) (sym (entries-step p i n h)) ∙ o)).1
-
-pub one-most : (b : Bool) → pick b 1 0 ≤ 1
-one-most true = omega arith
-one-most false = omega arith
 
 -- ---- one page, by its front
 

@@ -3,6 +3,7 @@ use Prim.Native.Nat.{ℕ, zero, suc, ◌+◌, ◌*◌, ◌-◌, ◌<◌, ◌≤�
 use mathlib.Core.Bool.{Bool, true, false, ◌&&◌, ◌||◌, not, or-true, and-true}
 use mathlib.Core.Path.{◌≡◌, refl, ap, sym, ◌∙◌}
 use mathlib.Core.List.{List, [], ◌∷◌}
+use Rattle.std.specs.Prelude.{Option, Some, None, ⊤}
 use native.Mathlib.Omega.{arith}
 use lib.Dec.{leb, ltb}
 use borrow.Author.Tests.{le-ltb, lt-ltb, leb-true, leb-false, ltb-false}
@@ -39,8 +40,13 @@ nexts-empty f a b (e ∷ es) l = rw (meets-empty a b e l, nexts-empty f (past a 
 
 -- ---- one entry
 
+-- what a way asks
+abbrev pub way_fine : (f : (ℕ → ℕ → ℕ → Bool)) (h : ℕ) → Option Way → Bool
+way_fine f h None = true
+way_fine f h (Some w) = ltb w.key h && f w.from w.upto w.page
+
 last-is : (f : ℕ → ℕ → ℕ → Bool) → ((c d m : ℕ) → d ≤ c → f c d m ≡ true) → (h a b : ℕ) (e : Entry) (es : List Entry)
-    → last_fine f h a b e es ≡ ((way_of h a b e es).fine && f (way_of h a b e es).from (way_of h a b e es).upto (way_of h a b e es).page)
+    → last_fine f h a b e es ≡ way_fine f h (way_of a b e es)
 last-is f g h a b e es = at (meets a b e)
   where
     d : ℕ
@@ -53,10 +59,9 @@ last-is f g h a b e es = at (meets a b e)
     by true q = sym (g (min d c) d e.value (omega (arith, leb-true d c q)))
     by false q = let z : c ≡ min d c = omega (arith, leb-false d c q) in ap (λ (x : ℕ). f x d e.value) z
 
-    at : (t : Bool) → (not t || (ltb e.key h && (leb d c || f c d e.value)))
-        ≡ ((way_if t h a b e es).fine && f (way_if t h a b e es).from (way_if t h a b e es).upto (way_if t h a b e es).page)
+    at : (t : Bool) → (not t || (ltb e.key h && (leb d c || f c d e.value))) ≡ way_fine f h (way_if t a b e es)
     at true = ap (λ (x : Bool). ltb e.key h && x) (by (leb d c) refl)
-    at false = sym (g 0 0 e.value (omega arith))
+    at false = refl
 
 lasts-high : (h a b : ℕ) (es : List Entry) → lasts (λ (c d m : ℕ). true) h a b es ≡ high_over h a b es
 lasts-high h a b [] = refl
@@ -127,13 +132,13 @@ module _ (ps : List Page) (up : ℕ) (p : List ℕ) (i n : ℕ) where
   abbrev rest : List Entry
   rest = read_entries p (128 + 96 * (i + 1)) (n - (i + 1))
 
-  pub lasts-step : (h a b : ℕ) (w : Way) → w ≡ way_of h a b e rest → i < n
-      → lasts (under up ps h) h a b here ≡ ((w.fine && under up ps h w.from w.upto w.page) && lasts (under up ps h) h a b rest)
+  pub lasts-step : (h a b : ℕ) (w : Option Way) → w ≡ way_of a b e rest → i < n
+      → lasts (under up ps h) h a b here ≡ (way_fine (under up ps h) h w && lasts (under up ps h) h a b rest)
   lasts-step h a b w q l =
       ap (lasts (under up ps h) h a b) (entries-step p i n l)
       ∙ ap (λ (x : Bool). x && lasts (under up ps h) h a b rest)
       (last-is (under up ps h) (λ c d m k. under-empty up ps h c d m k) h a b e rest)
-      ∙ ap (λ (x : Way). (x.fine && under up ps h x.from x.upto x.page) && lasts (under up ps h) h a b rest) (sym q)
+      ∙ ap (λ (x : Option Way). way_fine (under up ps h) h x && lasts (under up ps h) h a b rest) (sym q)
 
   pub lasts-end : (h a b : ℕ) → n ≤ i → lasts (under up ps h) h a b here ≡ true
   lasts-end h a b l = ap (lasts (under up ps h) h a b) (entries-end p (128 + 96 * i) i n l)
@@ -182,24 +187,14 @@ module _ (least : ℕ) (s : List ℕ) (n : ℕ) (k : IsPage least s n) where
       ap (lasts (under up (decode least s).pages h) h a b) entries-here
       ∙ ap (λ (u : ℕ). lasts (under u (decode least s).pages h) h a b (read_entries (page_of least s n) 128 (count_at least s n))) q
 
-pub way-page : (h a b : ℕ) (e : Entry) (es : List Entry) (w : Way) → w ≡ way_of h a b e es → w.page ≡ e.value
-way-page h a b e es w q = ap (λ (x : Way). x.page) q ∙ at (meets a b e)
-  where
-    at : (t : Bool) → (way_if t h a b e es).page ≡ e.value
-    at true = refl
-    at false = refl
+-- a way leads to the entry's page, and one that is not empty lies in the stretch and in the entry's span
+abbrev pub Leads : (a : ℕ) (e : Entry) → Option Way → Type 0
+Leads a e None = ⊤
+Leads a e (Some w) = (w.page ≡ e.value) × (w.from < w.upto → a ≤ w.from) × (w.upto ≤ e.end)
 
--- a way that is not empty lies in the stretch and in the entry's span
-pub way-late : (h a b : ℕ) (e : Entry) (es : List Entry) (w : Way) → w ≡ way_of h a b e es → w.from < w.upto
-    → (a ≤ w.from) × (w.upto ≤ e.end)
-way-late h a b e es w q l = at (meets a b e) q
+pub way-leads : (a b : ℕ) (e : Entry) (es : List Entry) → Leads a e (way_of a b e es)
+way-leads a b e es = at (meets a b e)
   where
-    at : (t : Bool) → w ≡ way_if t h a b e es → (a ≤ w.from) × (w.upto ≤ e.end)
-    at true z =
-        let f : w.from ≡ min (min b e.end) (past_all (max a e.start) es) = ap (λ (x : Way). x.from) z in
-        let u : w.upto ≡ min b e.end = ap (λ (x : Way). x.upto) z in
-        (omega (arith, past-all-more (max a e.start) es), omega arith)
-    at false z =
-        let f : w.from ≡ 0 = ap (λ (x : Way). x.from) z in
-        let u : w.upto ≡ 0 = ap (λ (x : Way). x.upto) z in
-        absurd (omega arith)
+    at : (t : Bool) → Leads a e (way_if t a b e es)
+    at true = (refl, λ l. omega (arith, past-all-more (max a e.start) es), omega arith)
+    at false = tt

@@ -2,27 +2,18 @@
 use mathlib.Core.Path.{sym, ◌∙◌}
 use native.Mathlib.Omega.{arith}
 use borrow.Author.Tests.{not-true}
-use Rattle.store.proofs.laws.Read.{current-lt}
-use Rattle.notes.proofs.laws.Laws.{wrong}
+use Rattle.std.proofs.Common.{leb-true}
 use Rattle.reach.proofs.laws.Rules.{six-missed}
 use Rattle.quick.proofs.missed.Goals as goal
+use Rattle.quick.proofs.missed.Goals.{then-h-v, else-h-v}
 
-pub returns-then-v-h : goal.returns-then-v-h
-returns-then-v-h c e = wrong e
-
-pub last-requires : goal.last-requires
-last-requires c = rw c.requires.1.header (current-lt c.args.l.least c.args.s.now)
-
-pub returns-then-last-v : goal.returns-then-last-v
-returns-then-last-v c e = wrong e
-
-pub version_ok-requires : goal.version_ok-requires
-version_ok-requires c =
-    let r = c.requires in
-    (r.0, r.1, omega (arith, c.if-last-v.false, c.last.ensures, r.1.last), omega (arith, c.if-v-h.false))
-
-pub returns : goal.returns
-returns c e =
-    six-missed c.args.l.least c.args.s.now c.args.h c.requires.1.header c.args.v
-    (omega (arith, c.if-v-h.false)) (omega (arith, c.if-last-v.false, c.last.ensures))
-    (sym c.version_ok.ensures ∙ not-true c.version_ok.result e)
+pub returns-then-v-last : goal.returns-then-v-last
+returns-then-v-last c e =
+    let a = c.args in let t = c.if-v-last.true in
+    elim c.if-h-v.branch [
+      | then-h-v w ↦
+          six-missed a.l.least a.s.now a.h c.requires.header a.v w.if-h-v.true
+          (omega (arith, leb-true a.v w.last.result (sym w.value-is ∙ t), w.last.ensures))
+          (sym c.version_ok.ensures ∙ not-true c.version_ok.result e)
+      | else-h-v w ↦ absurd (omega (arith, leb-true a.h.oldest a.v (sym w.value-is ∙ t), w.if-h-v.false))
+    ]

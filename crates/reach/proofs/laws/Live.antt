@@ -1,20 +1,18 @@
 -- The live entries of a page, one after the other, and what a rule asks of them. Assumes nothing.
-use Prim.Native.Nat.{ℕ, zero, suc, ◌+◌, ◌*◌, ◌<◌, ◌≤◌}
-use mathlib.Core.Path.{◌≡◌, refl, sym}
-use mathlib.Core.Bool.{Bool, true, false}
+use Prim.Native.Nat.{ℕ, ◌+◌, ◌*◌, ◌<◌, ◌≤◌}
+use mathlib.Core.Path.{◌≡◌}
+use mathlib.Core.Bool.{true, false}
 use mathlib.Core.List.{List, [], ◌∷◌}
 use mathlib.Core.Logic.{⊎_elim}
-use lib.Dec.{leb, ltb, eqb}
-use lib.ListN.{length}
-use borrow.Author.Tests.{lt-ltb, le-ltb, eq-eqb, ne_eqb}
+use lib.Dec.{ltb, eqb}
+use borrow.Author.Tests.{lt-ltb, le-ltb}
 use Rattle.bits.proofs.laws.Put.{less}
-use Rattle.model.specs.declared.Pair.{Pair}
 use Rattle.model.specs.Basic.{pick}
 use Rattle.model.specs.Entry.{pair_of, live_at}
-use Rattle.model.specs.Sound.{fewest, starts_at}
+use Rattle.model.specs.Sound.{starts_at}
 use Rattle.model.specs.Layout.{read_entry}
 use Rattle.page.proofs.laws.Read.{entries-step, entries-end}
-use Rattle.reach.specs.Pending.{pairs_from, NextLive, first_key, open_ok}
+use Rattle.reach.specs.Pending.{pairs_from, NextLive, first_key}
 
 module _ (p : List ℕ) (v k n : ℕ) where
   pub pairs-live : k < n → live_at v (read_entry p (128 + 96 * k)) ≡ true
@@ -43,36 +41,3 @@ starts_none p v i n k low x l = rw (x.same, pairs_end p v k n l)
 pub starts_first : (p : List ℕ) (v i n k low : ℕ) → NextLive p v i n k → k < n
     → starts_at low (pairs_from p v i n) ≡ eqb (read_entry p (128 + 96 * k)).key low
 starts_first p v i n k low x l = rw (x.same, x.live l)
-
--- ---- how many are wanted
-
-module _ (least : ℕ) (root : Bool) (up : ℕ) where
-  pub fewest-inner : root ≡ false → fewest least root up ≡ least
-  fewest-inner e = rw e
-
-  pub fewest-leaf : root ≡ true → up ≡ 0 → fewest least root up ≡ 0
-  fewest-leaf e f = rw (e, f)
-
-pub fewest-index : (least : ℕ) (root : Bool) (up : ℕ) → root ≡ true → (up ≡ 0 → ⊥) → fewest least root up ≡ 2
-fewest-index least root zero e f = absurd (f refl)
-fewest-index least root (suc up) e f = rw e
-
--- ---- what a rule asks of a page as a whole
-
-module _ (least rule : ℕ) (root : Bool) (up low : ℕ) (xs : List Pair) where
-  pub open-leaf : rule ≡ 4 → up ≡ 0 → true ≡ open_ok least rule root up low xs
-  unfolding open_ok
-  open-leaf a b = rw (eq-eqb rule 4 a, eq-eqb up 0 b)
-
-  pub open-starts : (b : Bool) → rule ≡ 4 → (up ≡ 0 → ⊥) → starts_at low xs ≡ b → b ≡ open_ok least rule root up low xs
-  unfolding open_ok
-  open-starts b a u e = rw (eq-eqb rule 4 a, ne_eqb up 0 u) (sym e)
-
-  pub open-counts : (k n : ℕ) → (rule ≡ 4 → ⊥) → rule ≡ 5 → k ≡ fewest least root up → n ≡ length xs
-      → leb k n ≡ open_ok least rule root up low xs
-  unfolding open_ok
-  open-counts k n a b e f = rw (ne_eqb rule 4 a, eq-eqb rule 5 b, e, f)
-
-  pub open-other : (rule ≡ 4 → ⊥) → (rule ≡ 5 → ⊥) → true ≡ open_ok least rule root up low xs
-  unfolding open_ok
-  open-other a b = rw (ne_eqb rule 4 a, ne_eqb rule 5 b)

@@ -7,7 +7,6 @@ use lib.ListN.{get_or}
 use Rattle.model.specs.declared.Pair.{Pair}
 use Rattle.model.specs.Basic.{any}
 use Rattle.model.specs.Page.{Page}
-use Rattle.model.specs.Store.{page}
 use Rattle.model.specs.Walk.{Seen, spread, seen_as, seen_below}
 use Rattle.model.specs.Layout.{read_header}
 use Rattle.local.specs.Local.{IsPage, level_at}

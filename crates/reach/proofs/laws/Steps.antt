@@ -22,7 +22,8 @@ use Rattle.model.proofs.lists.Lists.{both_true}
 use Rattle.local.specs.Local.{IsPage, count_at, level_at, entry_at}
 use Rattle.reach.specs.declared.marks.Item.{Item}
 use Rattle.notes.specs.Linked.{Linked}
-use Rattle.reach.specs.Pending.{first_key, step_ok, chain_ok, passes, rest_of, pairs_from, NextLive, whole_in}
+use Rattle.reach.specs.Pending.{first_key, step_ok, chain_ok, passes, pairs_from, NextLive, whole_in}
+use Rattle.reach.proofs.laws.Rest.{rest_of}
 use Rattle.reach.proofs.laws.Pending.{here, span_of, kids_in, none, pend, weight, heft, weigh, Fine}
 use Rattle.reach.proofs.laws.Live.{pairs_end, upper_first}
 use Rattle.reach.proofs.laws.Tests.{any_append, same-all}

@@ -21,7 +21,9 @@ use Rattle.model.proofs.lists.Bools.{same?}
 use Rattle.local.specs.Local.{IsPage, count_at, level_at}
 use Rattle.reach.specs.declared.marks.Item.{Item}
 use Rattle.notes.specs.Linked.{Linked}
-use Rattle.reach.specs.Pending.{open_ok, chain_ok, passes, rest_of, pairs_from, NextLive, whole, whole_in, is_number, Tells}
+use Rattle.std.specs.Prelude.{Option, None, Some}
+use Rattle.reach.specs.Pending.{open_ok, chain_ok, passes, pairs_from, NextLive, whole, whole_in, is_number, Tells}
+use Rattle.reach.proofs.laws.Rest.{rest_of}
 use Rattle.reach.proofs.laws.Pending.{here, seen_of, kids, span_of, kids_in, none, pend, Same, weight, heft, weigh, Fine}
 use Rattle.notes.specs.Ready.{BehindUpto}
 use Rattle.reach.specs.Versions.{QuietPart}
@@ -47,6 +49,12 @@ shuffle false false true false false = refl
 shuffle false false false true p = refl
 shuffle false false false false true = refl
 shuffle false false false false false = refl
+
+some_is : {A : Type 0} {x y : A} → ◌≡◌ {A = Option A} (Some x) (Some y) → x ≡ y
+some_is e = cc
+
+none_is : {A : Type 0} {y : A} → ◌≡◌ {A = Option A} None (Some y) → ⊥
+none_is e = cc
 
 module _ (least : ℕ) (four : 4 ≤ least) (eight : least ≤ 8) (s : List ℕ) (root up a b rule : ℕ) where
   abbrev ps : List Page
@@ -281,19 +289,13 @@ module _ (least : ℕ) (four : 4 ≤ least) (eight : least ≤ 8) (s : List ℕ)
   -- ---- the end
 
   pub finish : (marks : List Bool) (items : List Item) (top : ℕ) → Walking least s root up a b rule marks items top → top ≡ 0
-      → Tells least s root up a b rule (record { broken = 0; marks = marks })
+      → Tells least s root up a b rule (Some marks)
   unfolding pend
   finish marks items top w z =
       let q : Same (whole_in least s up a b root) w.done = rw (z, append-nil w.done) at w.same in
       let t : all (passes least rule) (whole_in least s up a b root) ≡ true
       = same-all (passes least rule) (whole_in least s up a b root) w.done q ∙ w.good in
-      record { verdict = rw t; marked = λ _ m. w.mark m ∙ sym (q (is_number m)) }
+      record { verdict = rw t; marked = λ ms e m. ap (λ (xs : List Bool). get_or xs m false) (sym (some_is e)) ∙ w.mark m ∙ sym (q (is_number m)) }
 
-  pub stopped : (marks : List Bool) → all (passes least rule) (whole_in least s up a b root) ≡ false
-      → Tells least s root up a b rule (record { broken = rule; marks = marks })
-  stopped marks t =
-      record {
-        verdict = rw t;
-        marked = λ e. absurd
-            (let f : ◌≡◌ {A = Bool} true false = sym e ∙ t in let z : ◌≡◌ {A = ℕ} 0 1 = cc in omega arith);
-      }
+  pub stopped : all (passes least rule) (whole_in least s up a b root) ≡ false → Tells least s root up a b rule None
+  stopped t = record { verdict = rw t; marked = λ ms e m. absurd (none_is e) }

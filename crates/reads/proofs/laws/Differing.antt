@@ -2,7 +2,7 @@
 use Prim.Native.Nat.{ℕ}
 use native.Mathlib.Omega.{arith}
 use mathlib.Core.Bool.{Bool, true, false, ◌||◌}
-use mathlib.Core.Path.{◌≡◌, refl, ap₂, sym, ◌∙◌}
+use mathlib.Core.Path.{◌≡◌, refl, ap, sym, ◌∙◌}
 use mathlib.Core.List.{List, [], ◌∷◌}
 use lib.ListN.{length}
 use Rattle.model.specs.Walk.{settings}
@@ -50,20 +50,17 @@ module _ (least : ℕ) (b : List ℕ) (u v : ℕ) where
   -- ---- what the guard gives
 
   module _ (j : (judged least b).number ≡ 0) where
-    abbrev six : Bool → Bool → ℕ
-    six x y = first_of (rule 6 (x || y) ∷ [])
-
-    chain : (x y : Bool) → unreadable (decode least b) u ≡ x → unreadable (decode least b) v ≡ y → six x y ≡ guarded least b (differing u v)
-    chain x y e f = sym (ap₂ six e f) ∙ chain-number least b (differing u v) j
+    by-test : (t : Bool) → either_unreadable (decode least b) u v ≡ t → first_of (rule 6 t ∷ []) ≡ guarded least b (differing u v)
+    by-test t e = sym (ap (λ (x : Bool). first_of (rule 6 x ∷ [])) e) ∙ chain-number least b (differing u v) j
 
     pub gives-first : unreadable (decode least b) u ≡ true → 6 ≡ guarded least b (differing u v)
-    gives-first e = chain true (unreadable (decode least b) v) e refl
+    gives-first e = by-test true (rw e refl)
 
     pub gives-second : unreadable (decode least b) u ≡ false → unreadable (decode least b) v ≡ true → 6 ≡ guarded least b (differing u v)
-    gives-second e f = chain false true e f
+    gives-second e f = by-test true (rw (e, f) refl)
 
     pub gives_both : unreadable (decode least b) u ≡ false → unreadable (decode least b) v ≡ false → 0 ≡ guarded least b (differing u v)
-    gives_both e f = chain false false e f
+    gives_both e f = by-test false (rw (e, f) refl)
 
 -- ---- what the guard's 0 says: both versions can be read
 

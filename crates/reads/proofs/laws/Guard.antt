@@ -8,11 +8,14 @@ use borrow.Author.Tests.{eqb-true}
 use Rattle.model.specs.declared.Limits.{Limits}
 use Rattle.model.specs.Store.{Store}
 use Rattle.model.specs.Layout.{decode}
+use Rattle.model.specs.declared.refusal.Refusal.{Refusal}
+use Rattle.model.specs.Refusals.{number_of}
 use Rattle.model.specs.Judged.{judged, is_sound}
 use Rattle.model.specs.Climb.{Result, refused}
 use Rattle.model.specs.Calls.{Rule, first_of, numbered}
 use Rattle.model.specs.Lent.{Outcome, left, judged_first, lent}
 use Rattle.model.proofs.sound.Judging.{zero-sound}
+use Rattle.store.proofs.laws.Refused.{refuses-some}
 use Rattle.reads.specs.Guard.{guarded, Sure}
 
 -- one that is not owes nothing
@@ -34,9 +37,12 @@ sound-zero least b h = eqb-true (judged least b).number 0 h
 
 module _ (least : ℕ) (b : List ℕ) (rules : Store → List Rule) where
   -- the guard as the code has it: a number of check's that is not 0, else the chain
-  pub judged-number : ((judged least b).number ≡ 0 → ⊥) → (judged least b).number ≡ guarded least b rules
+  judged-number : ((judged least b).number ≡ 0 → ⊥) → (judged least b).number ≡ guarded least b rules
   unfolding guarded
   judged-number z = refused-by (judged least b).number (λ n. n) (first_of (rules (decode least b))) z
+
+  pub judge-refused : (x : Refusal) → number_of x ≡ (judged least b).number → number_of x ≡ guarded least b rules
+  judge-refused x e = e ∙ judged-number (λ z. refuses-some x (e ∙ z))
 
   pub chain-number : (judged least b).number ≡ 0 → first_of (rules (decode least b)) ≡ guarded least b rules
   unfolding guarded

@@ -57,22 +57,13 @@ module _ (least : ℕ) (b : List ℕ) where
   unfolding decode
   unread-of h e v y f = sym (ap (λ (x : Header). beyond (last_of x.opened x.current) x.oldest v) e) ∙ sym f
 
-  module _ (v : ℕ) (j : (judged least b).number ≡ 0) where
-    pub gives-five : (bad : Bool) → bad ≡ true → 5 ≡ guarded least b (reading bad v)
-    gives-five bad e = sym (ap (λ (x : Bool). first_of (reading x v (decode least b))) e) ∙ chain-number least b (reading bad v) j
+  -- 6 behind the keys
+  module _ (bad : Bool) (v : ℕ) (e : bad ≡ false) where
+    pub gives-six : unreadable (decode least b) v ≡ true → 6 ≡ first_of (reading bad v (decode least b))
+    gives-six f = rw (e, f) refl
 
-    module _ (bad : Bool) (e : bad ≡ false) where
-      abbrev both : Bool → Bool → ℕ
-      both x y = first_of (rule 5 x ∷ rule 6 y ∷ [])
-
-      late : (y : Bool) → unreadable (decode least b) v ≡ y → both false y ≡ guarded least b (reading bad v)
-      late y g = sym (ap₂ both e g) ∙ chain-number least b (reading bad v) j
-
-      pub gives-six : unreadable (decode least b) v ≡ true → 6 ≡ guarded least b (reading bad v)
-      gives-six g = late true g
-
-      pub gives_none : unreadable (decode least b) v ≡ false → 0 ≡ guarded least b (reading bad v)
-      gives_none g = late false g
+    pub gives_none : unreadable (decode least b) v ≡ false → 0 ≡ first_of (reading bad v (decode least b))
+    gives_none f = rw (e, f) refl
 
 -- ---- what the guard's 0 says
 

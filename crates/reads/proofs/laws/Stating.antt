@@ -7,7 +7,7 @@ use mathlib.Core.List.{List}
 use lib.ListN.{length}
 use Rattle.model.specs.declared.Header.{Header}
 use Rattle.model.specs.declared.Limits.{Limits}
-use Rattle.model.specs.declared.State.{State}
+use Rattle.model.specs.State.{State}
 use Rattle.model.specs.Limits.{edition_of}
 use Rattle.model.specs.Store.{free_ones}
 use Rattle.model.specs.Layout.{read_header, decode}

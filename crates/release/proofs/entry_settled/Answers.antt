@@ -2,8 +2,6 @@
 use Prim.Native.Nat.{◌+◌, ◌*◌}
 use native.Mathlib.Omega.{arith}
 use mathlib.Core.Path.{ap, ◌∙◌}
-use borrow.Author.Rules.{rules}
-use borrow.Author.Tests.{not-true}
 use Rattle.model.specs.Layout.{read_entry, decode}
 use Rattle.release.specs.Settled.{settled}
 use Rattle.release.proofs.laws.Opened.{next_low, settled-apart}
@@ -19,13 +17,13 @@ may_turn-requires c = let p = c.requires in (p.1, p.2, next_low p.0)
 pub returns-then-not-may_turn : goal.returns-then-not-may_turn
 returns-then-not-may_turn c =
     let a = c.args in
-    let f = c.may_turn.ensures (not-true _ c.if-not-may_turn.true-raw) in
-    settled-apart c.requires.0 (read_entry a.p.now (128 + 96 * a.i)) f.start f.end
+    let f = c.may_turn.ensures c.if-not-may_turn.true in
+    rw c.if-not-may_turn.true (settled-apart c.requires.0 (read_entry a.p.now (128 + 96 * a.i)) f.start f.end)
 
 pub settled-requires : goal.settled-requires
 settled-requires c = (c.requires.0, key-low _ _ _ c.entry_at.ensures)
 
-pub returns : goal.returns
-returns c =
+pub returns-else-not-may_turn : goal.returns-else-not-may_turn
+returns-else-not-may_turn c =
     let a = c.args in
     c.settled.ensures ∙ ap (settled (decode a.l.least a.s.now)) c.entry_at.ensures

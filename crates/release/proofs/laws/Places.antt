@@ -4,19 +4,17 @@ use Prim.Native.Nat.{ℕ, suc, ◌+◌, ◌-◌, ◌*◌, ◌≤◌, ◌<◌}
 use native.Mathlib.Omega.{arith}
 use mathlib.Core.Bool.{Bool, true, false, ◌&&◌}
 use mathlib.Core.Option.{Option, none, some}
-use mathlib.Core.Path.{◌≡◌, refl, ap, ap₂, sym, ◌∙◌}
+use mathlib.Core.Path.{◌≡◌, ap, ap₂, sym, ◌∙◌}
 use mathlib.Core.List.{List}
 use lib.Dec.{eqb}
 use lib.ListN.{length}
 use borrow.Author.Tests.{eq-eqb, ne_eqb}
 use Rattle.model.specs.Basic.{all, pick, count}
 use Rattle.model.specs.declared.Entry.{Entry}
-use Rattle.model.specs.declared.Looked.TheVariants.{Value, Absent, Refused}
 use Rattle.model.specs.Page.{Page}
 use Rattle.model.specs.Store.{Store, page}
 use Rattle.model.specs.Walk.{key_limit}
 use Rattle.model.specs.Layout.{page_of, size_of, decode_page, decode}
-use Rattle.model.specs.Calls.{looked_at, looked_value}
 use Rattle.page.specs.Head.{read_head}
 use Rattle.page.proofs.laws.Read.{level-of, entries-of, read-sized}
 use Rattle.store.proofs.laws.Read.{page-at}
@@ -27,17 +25,11 @@ use Rattle.release.proofs.laws.Settled.{settled_from}
 
 -- ---- an answer
 
-pub value-so : (x y : ℕ) (r : Option ℕ) → Value x ≡ looked_at r → eqb x y ≡ is_value r y
-value-so x y none e = absurd (let z : ◌≡◌ {A = ℕ} 0 1 = cc in omega arith)
-value-so x y (some z) e = ap (λ (n : ℕ). eqb n y) (ap looked_value e)
+pub value-so : (x y : ℕ) (r : Option ℕ) → some x ≡ r → eqb x y ≡ is_value r y
+value-so x y r e = ap (λ (o : Option ℕ). is_value o y) e
 
-pub absent-so : (y : ℕ) (r : Option ℕ) → Absent ≡ looked_at r → false ≡ is_value r y
-absent-so y none e = refl
-absent-so y (some z) e = absurd (let q : ◌≡◌ {A = ℕ} 0 1 = cc in omega arith)
-
-pub refused-so : (n y : ℕ) (r : Option ℕ) → Refused n ≡ looked_at r → false ≡ is_value r y
-refused-so n y none e = absurd (let z : ◌≡◌ {A = ℕ} 0 1 = cc in omega arith)
-refused-so n y (some z) e = absurd (let q : ◌≡◌ {A = ℕ} 0 1 = cc in omega arith)
+pub absent-so : (y : ℕ) (r : Option ℕ) → none ≡ r → false ≡ is_value r y
+absent-so y r e = ap (λ (o : Option ℕ). is_value o y) e
 
 -- ---- the pages, one by one
 

@@ -1,29 +1,23 @@
 -- `unchanged` meets its contract: what is asked of all pages is asked of those from n on. Assumes nothing.
-use Prim.Native.Nat.{◌≤◌, ◌-◌}
 use native.Mathlib.Omega.{arith}
-use mathlib.Core.Path.{◌≡◌, ap, sym, ◌∙◌}
-use lib.ListN.{length}
-use borrow.Author.Rules.{rules}
-use borrow.Author.Tests.{not-true, not-false}
+use mathlib.Core.Path.{ap, sym, ◌∙◌}
 use Rattle.model.specs.declared.Header.{Header}
 use Rattle.model.specs.Layout.{decode}
-use Rattle.model.specs.Calls.{unchanged}
 use Rattle.store.proofs.laws.Sure.{few, front}
-use Rattle.release.proofs.laws.Settled.{settled_from}
 use Rattle.release.proofs.laws.Opened.{size_is, header-size, whole_is}
 use Rattle.release.proofs.laws.Places.{from-stops, from_goes, from-done}
 use Rattle.release.proofs.unchanged.Goals as goal
 
-pub header-h-requires : goal.header-h-requires
-header-h-requires c =
+pub header-size-requires : goal.header-size-requires
+header-size-requires c =
     let o = c.requires in
     let b = c.args.s.now in
-    (o.edition, omega (arith, front o.edition b o.sound), few o.edition b o.sound)
+    (omega (arith, front o.edition b o.sound), few o.edition b o.sound)
 
 pub loop-n-init : goal.loop-n-init
 loop-n-init c =
     let o = c.requires in (
-      c.wide-size.ensures ∙ ap (λ (h : Header). h.pages) c.header-h.ensures
+      ap (λ (h : Header). h.pages) c.header-size.ensures
           ∙ header-size o (λ i. (c.shared_slice_known-1.given i).fits),
       omega arith,
       sym (whole_is o),
@@ -39,7 +33,7 @@ returns-then-not-page_settled c =
     let a = c.args in
     let l = c.loop-n in
     sym (l.invariant.2 ∙ from-stops (decode a.l.least a.s.now) l.n (omega (arith, l.invariant.0)) _ c.page_settled.ensures
-    (not-true _ c.if-not-page_settled.true-raw))
+    c.if-not-page_settled.true)
 
 pub loop-n-preserved : goal.loop-n-preserved
 loop-n-preserved c =
@@ -49,7 +43,7 @@ loop-n-preserved c =
       omega (arith, l.invariant.1),
       l.invariant.2
           ∙ from_goes (decode a.l.least a.s.now) l.n (omega (arith, l.invariant.0)) _ c.page_settled.ensures
-          (not-false _ c.if-not-page_settled.false-raw),
+          c.if-not-page_settled.false,
     )
 
 pub returns : goal.returns

@@ -1,12 +1,11 @@
 -- `give_way` meets its contract. Assumes nothing.
-use mathlib.Core.Path.{ap, sym, ◌∙◌}
+use mathlib.Core.Path.{ap, sym}
 use Rattle.model.specs.declared.Pair.{Pair}
 use Rattle.gather.proofs.laws.Gather.{pair-at}
-use borrow.Author.Rules.{rules}
 use Rattle.root.proofs.give_way.Goals as goal
 
 pub returns : goal.returns
 returns c = (
-  c.wide.ensures ∙ ap (λ (x : Pair). x.value) (sym (pair-at c.args.want 0 c.requires.4)),
+  ap (λ (x : Pair). x.value) (sym (pair-at c.args.want 0 c.requires.4)),
   c.go_in.ensures,
 )

@@ -1,11 +1,11 @@
 -- Laws about root/specs/Renew. Assumes nothing.
 use Prim.Native.Nat.{ℕ, zero, suc, ◌+◌, ◌*◌, ◌<◌}
 use mathlib.Core.Path.{◌≡◌, refl, ap, sym, ◌∙◌}
-use mathlib.Core.Bool.{true, false}
 use mathlib.Core.List.{List, [], ◌∷◌}
 use native.Mathlib.Numerals.{add-one}
 use native.Mathlib.Omega.{arith}
 use lib.ListN.{get_or, set, replicate, length-set, length-replicate}
+use Rattle.std.specs.Prelude.{None, Some}
 use Rattle.model.specs.declared.Limits.{Limits}
 use Rattle.model.specs.declared.Pair.{Pair}
 use Rattle.model.specs.Entry.{pair}
@@ -31,7 +31,7 @@ pub alone-grouped : {l : Limits} {b : List ℕ} → ExactBytes l b → (n : ℕ)
     → want.n < 7 * l.least → Grouped l b (alone_with n want)
 alone-grouped {l} {b} k n i want z few =
     let r : Router l b (pair 0 n) = record { inside = i; fits = record { key = omega arith; value = omega (arith, i.high, k.most) } } in
-    record { routed = record { first = r; second = r }; good = z; few = few }
+    record { routed = record { first = r; second = λ x e. cc }; good = z; few = few }
 
 -- no page for it
 pub renew-lacks : (w level : ℕ) (x : Rebuilt) → x ≡ short → climb.lacks ≡ climb.new_root w level x
@@ -41,17 +41,17 @@ renew-lacks w level x e = sym (rw e)
 -- ---- with these routers to the pages now used
 
 module _ (w level : ℕ) (ps : List Page) (rs : Routers) where
-  pub crown-one : rs.two ≡ false → climb.moves rs.first.value ps ≡ climb.new_root w level (rebuilt ps (routers_of rs))
+  pub crown-one : rs.second ≡ None → climb.moves rs.first.value ps ≡ climb.new_root w level (rebuilt ps (routers_of rs))
   unfolding climb.new_root routers_of
   crown-one e = sym (rw e)
 
-  module _ (two : rs.two ≡ true) where
+  module _ (x : Pair) (two : rs.second ≡ Some x) where
     pub crown-none : free_ones ps ≡ [] → climb.lacks ≡ climb.new_root w level (rebuilt ps (routers_of rs))
     unfolding climb.new_root climb.topped routers_of
     crown-none e = sym (rw (two, e))
 
     pub crown-two : (n : ℕ) (ns : List ℕ) → free_ones ps ≡ n ∷ ns
-        → climb.moves n (set ps n (filled w (level + 1) (rs.first ∷ rs.second ∷ []))) ≡ climb.new_root w level (rebuilt ps (routers_of rs))
+        → climb.moves n (set ps n (filled w (level + 1) (rs.first ∷ x ∷ []))) ≡ climb.new_root w level (rebuilt ps (routers_of rs))
     unfolding climb.new_root climb.topped routers_of
     crown-two n ns e = sym (rw (two, e, add-one))
 

@@ -16,7 +16,6 @@ use Rattle.climb.proofs.laws.Rebuild.{itself}
 use Rattle.root.specs.Root.{rooted_of}
 use Rattle.root.proofs.laws.Root.{goes_some, root-goes, root-stays, root-renews}
 use Rattle.root.proofs.laws.Renew.{alone-is, alone-grouped}
-use borrow.Author.Rules.{rules}
 use Rattle.root.proofs.work_root.Goals as goal
 use Rattle.root.proofs.work_root.Goals.{After-goes}
 

@@ -1,6 +1,5 @@
 -- `store::header_by` meets its contract: the fields are read one by one. Assumes nothing.
 use Rattle.store.specs.Header.{header_by}
-use borrow.Author.Rules.{rules}
 use Rattle.store.proofs.header_by.Goals as goal
 
 pub returns : goal.returns

@@ -1,4 +1,5 @@
 -- Laws about store/specs/Editions. Assumes nothing.
+use Rattle.std.specs.Prelude.{Ok, Err}
 use Prim.Native.Nat.{ℕ, ◌<◌, ◌≤◌}
 use mathlib.Core.Bool.{true, false}
 use mathlib.Core.Path.{◌≡◌, ap, sym, ◌∙◌}
@@ -8,14 +9,16 @@ use native.Mathlib.Omega.{arith}
 use borrow.Author.Tests.{lt-ltb, le-ltb, eq-eqb, ne_eqb}
 use lib.Dec.{eqb}
 use lib.ListN.{length, get_or}
-use Rattle.model.specs.Limits.{limits, Edition, edition_of}
+use Rattle.model.specs.Limits.{edition_of}
+use Rattle.model.specs.declared.Limits.{Limits}
+use Rattle.model.specs.declared.refusal.Refusal.{Refusal}
 use Rattle.model.specs.Judged.{magic_ok, edition_ok}
-use Rattle.model.specs.Editions.{by_edition, lent_number, least_of}
-use Rattle.model.proofs.theorems.Editions.{goes, refuses, least-is, edition-four, edition-eight}
+use Rattle.model.specs.Editions.{by_edition, lent_number}
+use Rattle.model.specs.Refusals.{number_of}
+use Rattle.model.proofs.theorems.Editions.{goes, refuses}
 use Rattle.bits.proofs.laws.Laws.{field-byte}
-use Rattle.page.proofs.laws.Editions.{edition-of}
-use Rattle.store.specs.declared.editions.Lent.{Lent}
-use Rattle.store.specs.Editions.{lent_of, lent_as}
+use Rattle.store.specs.Editions.{Lent, lent_of, lent_as, lent_in}
+use Rattle.store.proofs.laws.Refused.{refuses-some}
 
 -- ---- what the tests come to; the edition stands in the fifth byte
 
@@ -57,18 +60,12 @@ module _ (b : List ℕ) where
 
 -- ---- a call by the edition found
 
-module _ (r : Lent) (b : List ℕ) (e : r ≡ lent_as b) where
-  pub is-edition : Edition r.limits
-  is-edition =
-      edition-of (least_of b) (ap (λ (x : Lent). x.limits) e) (edition-four (least_of b) (least-is b))
-      (edition-eight (least_of b) (least-is b))
-
+module _ (b : List ℕ) where
   module _ {A : Type 0} (f g : ℕ → A) where
-    pub refused-early : r.number ≢ 0 → f r.number ≡ by_edition b f g
-    refused-early z =
-        let n : r.number ≡ lent_number b = ap (λ (x : Lent). x.number) e in
-        ap f n ∙ sym (refuses b f g (λ q. z (n ∙ q)))
+    pub refused-early : (r : Refusal) → lent_in (Err r) ≡ lent_as b → f (number_of r) ≡ by_edition b f g
+    refused-early r e =
+        let n : number_of r ≡ lent_number b = ap (λ (x : Lent). x.number) e in
+        ap f n ∙ sym (refuses b f g (λ q. refuses-some r (n ∙ q)))
 
-    pub gone-on : r.number ≡ 0 → g r.limits.least ≡ by_edition b f g
-    gone-on z =
-        ap (λ (x : Lent). g x.limits.least) e ∙ sym (goes b f g (sym (ap (λ (x : Lent). x.number) e) ∙ z))
+    pub gone-on : (l : Limits) → lent_in (Ok l) ≡ lent_as b → g l.least ≡ by_edition b f g
+    gone-on l e = ap (λ (x : Lent). g x.least) e ∙ sym (goes b f g (sym (ap (λ (x : Lent). x.number) e)))

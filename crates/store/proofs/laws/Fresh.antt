@@ -39,6 +39,15 @@ fresh_header n = record { pages = n; current = 0; opened = false; roots = 1; old
 
 -- ---- the name, byte by byte
 
+-- the first four bytes written at once
+pub name-written : (s : List ℕ) → 4 ≤ length s
+    → 0x52 ∷ 0x43 ∷ 0x53 ∷ 0x54 ∷ drop 4 s ≡ set (set (set (set s 0 0x52) 1 0x43) 2 0x53) 3 0x54
+name-written (a ∷ b ∷ c ∷ d ∷ s) h = refl
+name-written (a ∷ b ∷ c ∷ []) h = absurd (omega arith)
+name-written (a ∷ b ∷ []) h = absurd (omega arith)
+name-written (a ∷ []) h = absurd (omega arith)
+name-written [] h = absurd (omega arith)
+
 pub name-laid : (s : List ℕ) (e : ℕ) → Bytes s → 5 ≤ length s → e < 256
     → set (set (set (set (set s 0 0x52) 1 0x43) 2 0x53) 3 0x54) 4 e ≡ lay s 0 (named_by e)
 unfolding lay

@@ -120,12 +120,12 @@ module _ (least : ℕ) (four : 4 ≤ least) (eight : least ≤ 8) (s : Store) (v
 
 -- ---- what is set can be held
 
-valid-set : (least : ℕ) (ps : List Page) (n : ℕ) (q : Page) → AllValid least ps → Valid least q → AllValid least (set ps n q)
+valid-set : (least : ℕ) (xs : List Page) (n : ℕ) (q : Page) → AllValid least xs → Valid least q → AllValid least (set xs n q)
 valid-set least [] n q v z k = v k
-valid-set least (p ∷ ps) zero q v z zero = z
-valid-set least (p ∷ ps) zero q v z (suc k) = v (suc k)
-valid-set least (p ∷ ps) (suc n) q v z zero = v 0
-valid-set least (p ∷ ps) (suc n) q v z (suc k) = valid-set least ps n q (λ j. v (suc j)) z k
+valid-set least (p ∷ xs) zero q v z zero = z
+valid-set least (p ∷ xs) zero q v z (suc k) = v (suc k)
+valid-set least (p ∷ xs) (suc n) q v z zero = v 0
+valid-set least (p ∷ xs) (suc n) q v z (suc k) = valid-set least xs n q (λ j. v (suc j)) z k
 
 module _ (least : ℕ) (s : Store) (v : Holds least s) where
   pub holds-page : (n : ℕ) (q : Page) → 5 ≤ n → Valid least q → Holds least (with_pages s (set s.pages n q))

@@ -19,7 +19,7 @@ use Rattle.model.specs.Field.{field, Bytes}
 use Rattle.model.specs.Page.{free}
 use Rattle.model.specs.Store.{page}
 use Rattle.model.specs.Layout.{page_of, read_header, decode_page, decode, size_of, magic, live_of, live_in}
-use Rattle.model.specs.Clean.{clean_page, clean_pages, clean_front, clean}
+use Rattle.model.specs.Clean.{clean_page, clean_pages, clean_front}
 use Rattle.model.specs.Judged.{length_ok, magic_ok, edition_ok}
 use Rattle.model.proofs.lists.Lists.{both_true}
 use Rattle.page.specs.Exact.{Valid}

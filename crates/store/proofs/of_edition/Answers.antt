@@ -1,10 +1,8 @@
 -- `of_edition` meets its contract. Assumes nothing.
 use Prim.Native.Nat.{ℕ}
-use native.Mathlib.Omega.{arith}
 use mathlib.Core.Path.{◌≡◌, refl, sym, ◌∙◌}
 use mathlib.Core.List.{List}
 use lib.Dec.{eqb}
-use borrow.Author.Rules.{rules}
 use Rattle.model.specs.Limits.{edition_of}
 use Rattle.model.specs.Field.{field}
 use Rattle.model.specs.Judged.{edition_ok}
@@ -13,9 +11,6 @@ use Rattle.store.proofs.of_edition.Goals as goal
 edition-by : (least : ℕ) (b : List ℕ) → edition_ok least b ≡ eqb (field b 32 8) (edition_of least)
 unfolding edition_ok
 edition-by least b = refl
-
-pub field-requires : goal.field-requires
-field-requires c = (omega (arith, c.requires.1), omega arith, c.requires.2)
 
 pub returns : goal.returns
 returns c =

@@ -11,7 +11,7 @@ use Rattle.model.specs.Walk.{range_below}
 use Rattle.model.specs.Layout.{page_of, size_of, decode}
 use Rattle.local.specs.Local.{count_at}
 use Rattle.model.specs.Near.{page_right, range_right}
-use Rattle.walk.specs.Scan.{entry, from, Next}
+use Rattle.walk.specs.Scan.{entry, Next}
 use Rattle.walk.specs.Below.{later}
 use Rattle.walk.proofs.laws.Below.{later-step, later_same}
 use Rattle.model.specs.declared.Limits.{Limits}

@@ -1,13 +1,13 @@
 -- Laws about tabled/specs/Table. Assumes nothing.
-use Prim.Native.Nat.{ℕ, zero, suc, pred, ◌+◌, ◌-◌, ◌≤◌, ◌<◌}
+use Prim.Native.Nat.{ℕ, zero, suc, pred, ◌+◌, ◌-◌, ◌<◌}
 use native.Mathlib.Omega.{arith}
 use native.Mathlib.Numerals.{sub-one}
 use mathlib.Core.Bool.{Bool, true, false, ◌&&◌}
 use mathlib.Core.Path.{◌≡◌, refl, ap, sym, ◌∙◌}
 use mathlib.Core.List.{List, ◌∷◌}
-use lib.Dec.{leb, ltb}
+use lib.Dec.{leb}
 use lib.ListN.{length, length-append}
-use borrow.Author.Tests.{le-leb, lt-leb, lt-ltb, le-ltb}
+use borrow.Author.Tests.{le-leb}
 use Rattle.model.specs.Basic.{all, flat_map}
 use Rattle.model.specs.declared.Entry.{Entry}
 use Rattle.model.specs.declared.Pair.{Pair}
@@ -17,7 +17,6 @@ use Rattle.model.specs.Store.{page}
 use Rattle.model.specs.Walk.{between, range_below}
 use Rattle.model.specs.Layout.{decode}
 use Rattle.model.specs.Near.{page_right, starts_by, range_right}
-use Rattle.model.proofs.lists.Bools.{fails-right}
 use Rattle.walk.specs.declared.search.Own.{Own}
 use Rattle.walk.specs.Live.{live}
 use Rattle.walk.proofs.laws.Live.{live_on, live-off}
@@ -55,32 +54,15 @@ module _ (least : ℕ) (b : List ℕ) (v lo hi : ℕ) where
   abbrev ps : List Page
   ps = (decode least b).pages
 
-  turn-not : (up : ℕ) (e : Entry) → (live_at v e && leb e.key hi) ≡ false → turn least b v lo hi up e ≡ 1
+  -- one that the range does not follow, and one that it does
+  pub turn-not : (up : ℕ) (e : Entry) → (live_at v e && leb e.key hi) ≡ false → turn least b v lo hi up e ≡ 1
   unfolding turn
   turn-not up e h = rw h
 
-  turn-so : (up : ℕ) (e : Entry) → (live_at v e && leb e.key hi) ≡ true
+  pub turn-so : (up : ℕ) (e : Entry) → (live_at v e && leb e.key hi) ≡ true
       → turn least b v lo hi up e ≡ found least b v lo hi up e.key e.value
   unfolding turn
   turn-so up e h = rw h
-
-  module _ (up : ℕ) (e : Entry) where
-    -- it starts later, has ended, or stands behind the high key
-    pub turn-early : v < e.start → turn least b v lo hi up e ≡ 1
-    turn-early h = turn-not up e (rw (lt-leb e.start v h))
-
-    pub turn-late : e.end ≤ v → turn least b v lo hi up e ≡ 1
-    turn-late h = turn-not up e (at (leb e.start v) (ltb v e.end) (leb e.key hi) (le-ltb v e.end h))
-      where
-        at : (a c d : Bool) → c ≡ false → (a && c && d) ≡ false
-        at true c d q = rw q
-        at false c d q = refl
-
-    pub turn-high : hi < e.key → turn least b v lo hi up e ≡ 1
-    turn-high h = turn-not up e (fails-right (live_at v e) (leb e.key hi) (lt-leb e.key hi h))
-
-    pub turn_on : e.start ≤ v → v < e.end → e.key ≤ hi → turn least b v lo hi up e ≡ found least b v lo hi up e.key e.value
-    turn_on a c h = turn-so up e (rw (le-leb e.start v a, lt-ltb v e.end c, le-leb e.key hi h))
 
   -- what the number says
   module _ (up at n r : ℕ) (e : r ≡ found least b v lo hi up at n) where

@@ -1,8 +1,8 @@
 -- `abandon` meets its contract. Assumes nothing.
+use Rattle.model.proofs.Edition.{edition}
 use Prim.Native.Nat.{◌+◌}
 use native.Mathlib.Omega.{arith}
 use mathlib.Core.Path.{◌≡◌, ap, sym, ◌∙◌}
-use borrow.Author.Rules.{rules}
 use Rattle.model.specs.Layout.{decode}
 use Rattle.model.specs.Store.{next}
 use Rattle.model.specs.declared.Header.{Header}
@@ -18,9 +18,8 @@ use Rattle.turn.proofs.abandon.Goals as goal
 pub header-h-requires : goal.header-h-requires
 header-h-requires c =
     let a = c.args in (
-      c.requires.0,
-      omega (arith, front c.requires.0 a.s.now c.requires.1),
-      few c.requires.0 a.s.now c.requires.1,
+      omega (arith, front (edition c.args.l) a.s.now c.requires.0),
+      few (edition c.args.l) a.s.now c.requires.0,
     )
 
 pub overflow_add-w : goal.overflow_add-w
@@ -28,21 +27,20 @@ overflow_add-w c =
     omega (
       arith,
       ap (λ (h : Header). h.current) c.header-h.ensures,
-      next_low c.requires.0 c.args.s.now c.requires.1,
+      next_low (edition c.args.l) c.args.s.now c.requires.0,
     )
 
 pub undo_pages-requires : goal.undo_pages-requires
 undo_pages-requires c =
     let a = c.args in
-    let d = c.requires.0 in
-    let k = kept d a.s.now c.requires.1 (λ i. (c.slice_known-1.given i).fits) in
-    let sound = sure d a.s.now c.requires.1 in
+    let d = edition c.args.l in
+    let k = kept d a.s.now c.requires.0 (λ i. (c.slice_known-1.given i).fits) in
+    let sound = sure d a.s.now c.requires.0 in
     let e = ap (λ (h : Header). h.current) c.header-h.ensures in (
-      d,
       omega arith,
-      omega (arith, e, next_low d a.s.now c.requires.1),
+      omega (arith, e, next_low d a.s.now c.requires.0),
       k,
-      c.wide.ensures ∙ ap (λ (h : Header). h.pages) (c.header-h.ensures ∙ sym k.header),
+      ap (λ (h : Header). h.pages) (c.header-h.ensures ∙ sym k.header),
       all_past a.l.least (decode a.l.least a.s.now) sound _
           (omega (
             arith,
@@ -55,24 +53,22 @@ undo_pages-requires c =
 pub drop_slot-roots-requires : goal.drop_slot-roots-requires
 drop_slot-roots-requires c =
     let a = c.args in
-    let d = c.requires.0 in
-    let k = kept d a.s.now c.requires.1 (λ i. (c.slice_known-1.given i).fits) in
+    let d = edition c.args.l in
+    let k = kept d a.s.now c.requires.0 (λ i. (c.slice_known-1.given i).fits) in
     let e = ap (λ (h : Header). h.roots) c.header-h.ensures in
     let n = c.undo_pages.auto.s in (
-      d,
-      omega (arith, e, some-roots d a.s.now c.requires.1 k),
-      omega (arith, e, roots d a.s.now c.requires.1),
-      omega (arith, n, front d a.s.now c.requires.1),
-      omega (arith, n, few d a.s.now c.requires.1),
+      omega (arith, e, some-roots d a.s.now c.requires.0 k),
+      omega (arith, e, roots d a.s.now c.requires.0),
+      omega (arith, n, front d a.s.now c.requires.0),
+      omega (arith, n, few d a.s.now c.requires.0),
     )
 
 pub put_header-requires : goal.put_header-requires
 put_header-requires c =
     let a = c.args in
-    let d = c.requires.0 in
+    let d = edition c.args.l in
     let f = header-fits a.l.least a.s.now in
     let n = c.drop_slot-roots.auto.s ∙ c.undo_pages.auto.s in (
-      d,
       rw (c.with_flag.ensures, c.with_roots.ensures, c.header-h.ensures)
           (record {
             pages = f.pages;
@@ -85,20 +81,20 @@ put_header-requires c =
             );
             oldest = f.oldest;
           }),
-      omega (arith, n, front d a.s.now c.requires.1),
-      omega (arith, n, few d a.s.now c.requires.1),
+      omega (arith, n, front d a.s.now c.requires.0),
+      omega (arith, n, few d a.s.now c.requires.0),
     )
 
 pub returns : goal.returns
 returns c =
     let a = c.args in
-    let d = c.requires.0 in
-    let k = kept d a.s.now c.requires.1 (λ i. (c.slice_known-1.given i).fits) in
+    let d = edition c.args.l in
+    let k = kept d a.s.now c.requires.0 (λ i. (c.slice_known-1.given i).fits) in
     let e = ap (λ (h : Header). h.current) c.header-h.ensures in
     let q : c.header-h.result.current + 1 ≡ next (decode a.l.least a.s.now)
     = omega (arith, e, ap (λ (h : Header). h.current) k.header) in
     rw (c.with_flag.ensures, c.with_roots.ensures, c.header-h.ensures) at
     c.put_header.ensures
-    ∙ abandoned-bytes d a.s.now c.requires.1 k c.requires.2 (c.header-h.result.current + 1) q
-    (omega (arith, e, next_low d a.s.now c.requires.1)) _ _ _ c.undo_pages.ensures
+    ∙ abandoned-bytes d a.s.now c.requires.0 k c.requires.1 (c.header-h.result.current + 1) q
+    (omega (arith, e, next_low d a.s.now c.requires.0)) _ _ _ c.undo_pages.ensures
     (rw (ap (λ (h : Header). h.roots) c.header-h.ensures) at c.drop_slot-roots.ensures)

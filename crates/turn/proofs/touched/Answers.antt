@@ -1,9 +1,9 @@
 -- `touched` meets its contract: what is left to be read decides for all. Assumes nothing.
-use Prim.Native.Nat.{ℕ, ◌+◌, ◌-◌, ◌≤◌, ◌<◌}
+use Rattle.model.proofs.Edition.{edition}
+use Prim.Native.Nat.{ℕ, ◌+◌, ◌<◌}
 use native.Mathlib.Omega.{arith}
 use mathlib.Core.Path.{◌≡◌, ap, sym, ◌∙◌, subst}
 use mathlib.Core.Bool.{true, false}
-use borrow.Author.Rules.{rules}
 use Rattle.page.specs.declared.Head.{Head}
 use Rattle.turn.proofs.laws.Touched.{Still, from, still-more, from_step, from_end, count-is, still_read}
 use Rattle.turn.proofs.touched.Goals as goal
@@ -13,7 +13,7 @@ nothing {ℓ} : {A : Type ℓ} → true ≡ false → A
 nothing h = absurd (let z : ◌≡◌ {A = ℕ} 0 1 = cc in omega arith)
 
 pub head_of-h-requires : goal.head_of-h-requires
-head_of-h-requires c = let p = c.requires in (p.0, omega (arith, p.1.size, p.0.four), omega (arith, p.1.size, p.0.eight))
+head_of-h-requires c = let p = c.requires in (omega (arith, p.0.size, (edition c.args.l).four), omega (arith, p.0.size, (edition c.args.l).eight))
 
 pub returns-then-h-w : goal.returns-then-h-w
 returns-then-h-w c = nothing
@@ -25,7 +25,7 @@ pub may_turn-requires : goal.may_turn-requires
 may_turn-requires c =
     let p = c.requires in
     let e = ap (λ (x : Head). x.count) c.head_of-h.ensures ∙ count-is c.args.l.least c.args.page.now in
-    (omega (arith, p.1.size, p.1.room, p.0.four, e, c.loop-i-test.true), omega (arith, p.1.size, p.0.eight), p.2)
+    (omega (arith, p.0.size, p.0.room, (edition c.args.l).four, e, c.loop-i-test.true), omega (arith, p.0.size, (edition c.args.l).eight), p.1)
 
 pub returns-then-may_turn : goal.returns-then-may_turn
 returns-then-may_turn c = nothing
@@ -50,6 +50,6 @@ returns c =
     let e = c.head_of-h.ensures in
     let l = c.loop-i in
     still_read a.l.least a.w a.page.now (λ z. c.if-h-w.false (ap (λ (x : Head). x.start) e ∙ z))
-    c.requires.3
+    c.requires.2
     (subst (λ (k : ℕ). Still a.w (from a.page.now 0 k)) (ap (λ (x : Head). x.count) e)
     (l.invariant.1 (from_end a.page.now a.w l.i c.head_of-h.result.count (omega (arith, c.loop-i-test.false)))))

@@ -1,4 +1,4 @@
--- Laws about walk/specs/Counted. Assumes nothing.
+-- What a range gives that is counted first, and then written. Assumes nothing.
 use Prim.Native.Nat.{ℕ, ◌*◌, ◌^◌, ◌≤◌, ◌<◌}
 use native.Mathlib.Omega.{arith}
 use mathlib.Core.Bool.{Bool, true, false}
@@ -8,10 +8,12 @@ use lib.ListN.{length, drop}
 use borrow.Author.Tests.{lt-ltb, le-ltb}
 use Rattle.model.specs.declared.Pair.{Pair}
 use Rattle.model.specs.Calls.{rule, first_of, ranged_in, ranged_by}
+use Rattle.std.specs.Prelude.{Ok, Err}
+use Rattle.model.specs.declared.refusal.ListRefusal.TheVariants.{TooShort}
+use Rattle.model.specs.Refusals.{listed_in}
 use Rattle.model.specs.Lent.{listed}
 use Rattle.walk.specs.Written.{numbers, written, PairSpace, PairGathers}
 use Rattle.walk.proofs.laws.Written.{written-not, written_all}
-use Rattle.walk.specs.Counted.{with_list}
 
 -- "caller's list holds fewer numbers than twice the settings found"
 pub counted-short : (ns : List ℕ) (xs : List Pair) → length ns < 2 * length xs
@@ -32,7 +34,7 @@ module _ {ns ns1 : List ℕ} {r : ℕ} {xs : List Pair} (g : PairGathers false n
   pub untouched : ns1 ≡ ns
   untouched = g.list ∙ written-not ns xs
 
-  pub range-short : length ns1 < 2 * r → with_list (record { number = 14; count = r }) ns1 ≡ listed ns (ranged_by 0 (length ns) xs)
+  pub range-short : length ns1 < 2 * r → listed_in (Err (TooShort r)) ns1 ≡ listed ns (ranged_by 0 (length ns) xs)
   range-short h = rw (counted, untouched) (sym (counted-short ns xs (rw (counted, untouched) at h)))
 
   module _ (h : 2 * r ≤ length ns1) where
@@ -40,7 +42,7 @@ module _ {ns ns1 : List ℕ} {r : ℕ} {xs : List Pair} (g : PairGathers false n
     second-space few = record { few = omega arith; room = λ e. omega (arith, counted) }
 
     pub range_all : {ns2 : List ℕ} {r2 : ℕ} → PairGathers true ns1 ns2 0 r2 xs
-        → with_list (record { number = 0; count = r }) ns2 ≡ listed ns (ranged_by 0 (length ns) xs)
+        → listed_in (Ok r) ns2 ≡ listed ns (ranged_by 0 (length ns) xs)
     range_all {ns2} k =
         let room : 2 * length xs ≤ length ns = rw (counted, untouched) at h in
         let e : ns2 ≡ numbers xs ++ drop (length (numbers xs)) ns = k.list ∙ ap (λ (ms : List ℕ). written true ms 0 xs) untouched

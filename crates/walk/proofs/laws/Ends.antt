@@ -54,6 +54,10 @@ lead-start k c (x ∷ xs) h = around-lead k none x xs ∙ sym (rw h)
 pub lead-on : (k c : ℕ) (x : Pair) (xs : List Pair) → x.key ≤ k → lead k c (x ∷ xs) ≡ lead k x.value xs
 lead-on k c x xs h = rw (le-leb x.key k h)
 
+pub starts-above : (k : ℕ) (xs : List Pair) → above k xs ≡ true → starts_by k xs ≡ false
+starts-above k [] h = refl
+starts-above k (x ∷ xs) h = lt-leb x.key k (ltb-true k x.key (all_cons (λ (y : Pair). ltb k y.key) x xs h).0)
+
 pub lead-above : (k c : ℕ) (xs : List Pair) → above k xs ≡ true → lead k c xs ≡ c
 lead-above k c [] h = refl
 lead-above k c (x ∷ xs) h = rw (lt-leb x.key k (ltb-true k x.key (all_cons (λ (y : Pair). ltb k y.key) x xs h).0))

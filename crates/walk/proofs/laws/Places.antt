@@ -6,6 +6,7 @@ use mathlib.Core.Path.{◌≡◌, refl, ap, sym, ◌∙◌, subst}
 use mathlib.Core.Logic.{◌⊎◌, inl, inr}
 use mathlib.Core.List.{List, ◌∷◌}
 use lib.Dec.{leb, ltb}
+use mir.Val.{bool_byte}
 use borrow.Author.Tests.{ltb-true, ltb-false, lt-leb, lt-ltb, le-ltb}
 use Rattle.model.specs.Basic.{in_order, pick}
 use Rattle.model.specs.Entry.{live_at, before}
@@ -15,11 +16,13 @@ use Rattle.model.specs.Layout.{read_entry, read_entries}
 use Rattle.bits.proofs.laws.Laws.{field-split, field_lt}
 use Rattle.bits.proofs.laws.Put.{less}
 use Rattle.walk.specs.Live.{live}
-use Rattle.walk.proofs.laws.Live.{later}
+use Rattle.walk.proofs.laws.Live.{later, live-off, above}
+use Rattle.walk.proofs.laws.Ends.{starts-above}
+use Rattle.model.specs.declared.Entry.{Entry}
 use Rattle.model.specs.Near.{starts_by}
 use Rattle.model.specs.Inner.{In}
 use Rattle.walk.specs.Scan.{entry, from, Owns}
-use Rattle.walk.proofs.laws.Scan.{from_step, order_from, next-passed, Owning, owning-start, owning-on, owning-off, owning-above}
+use Rattle.walk.proofs.laws.Scan.{above_from, from_end, from_step, order_from, next-passed, Owning, owning-start, owning-on, owning-off, owning-above}
 use Rattle.walk.proofs.laws.Scan.{owning-end}
 use Rattle.walk.specs.Places.{Place, Fives}
 
@@ -29,11 +32,13 @@ module _ (p : List ℕ) (i k : ℕ) where
   unfolding read_entry
   word-is = field-split p (128 + 96 * i) 24 8
 
-  pub word-under : field p (128 + 96 * i) 32 < k * 256 → ◌≡◌ {A = ℕ} 1 (pick (ltb (entry p i).key k) 1 0)
-  word-under h = rw (lt-ltb (entry p i).key k (omega (arith, word-is)))
-
-  pub word_over : k * 256 ≤ field p (128 + 96 * i) 32 → ◌≡◌ {A = ℕ} 0 (pick (ltb (entry p i).key k) 1 0)
-  word_over h = rw (le-ltb (entry p i).key k (omega (arith, word-is, field_lt p (128 + 96 * i + 24) 8)))
+  pub word-under : (w : ℕ) → w ≡ field p (128 + 96 * i) 32 → bool_byte (ltb w (k * 256)) ≡ pick (ltb (entry p i).key k) 1 0
+  word-under w e = at (ltb (entry p i).key k) refl
+    where
+      at : (b : Bool) → ltb (entry p i).key k ≡ b → bool_byte (ltb w (k * 256)) ≡ pick b 1 0
+      at true h =
+          rw (lt-ltb w (k * 256) (omega (arith, e, word-is, field_lt p (128 + 96 * i + 24) 8, ltb-true (entry p i).key k h)))
+      at false h = rw (le-ltb w (k * 256) (omega (arith, e, word-is, ltb-false (entry p i).key k h)))
 
 -- what the count of one entry says of its key
 module _ (a k : ℕ) where
@@ -165,6 +170,27 @@ module _ (p : List ℕ) (v k n : ℕ) (o : in_order before (read_entries p 128 n
         at false a w =
             let e : i + 1 ≡ suc i = omega arith in
             rw (alive-not p v (suc i) i refl a) (rw e at (owning-off p v k n i (last_alive p v i) (omega (arith, f.within)) w a))
+
+    -- one of the first r is alive
+    dead-from : (i : ℕ) → i ≤ r → ((j : ℕ) → j < r → live_at v (entry p j) ≡ false) → live v (from p 0 n) ≡ live v (from p i n)
+    dead-from zero l d = refl
+    dead-from (suc i) l d =
+        let e : i + 1 ≡ suc i = omega arith in
+        dead-from i (omega arith) d ∙ ap (live v) (from_step p n i (omega (arith, f.within)))
+        ∙ live-off v (entry p i) (from p (i + 1) n) (d i (omega arith)) ∙ ap (λ (j : ℕ). live v (from p j n)) e
+
+    pub some-alive : ((j : ℕ) → j < r → live_at v (entry p j) ≡ false) → ⊥
+    some-alive d = at (less r n)
+      where
+        none : above k (live v (from p r n)) ≡ true → ⊥
+        none a =
+            let q : true ≡ false = sym h ∙ ap (starts_by k) (dead-from r (omega arith) d) ∙ starts-above k (live v (from p r n)) a in
+            let z : ◌≡◌ {A = ℕ} 0 1 = cc in
+            omega arith
+
+        at : (r < n) ⊎ (n ≤ r) → ⊥
+        at (inl l) = none (above_from p n v k r l o (omega (arith, f.next l)))
+        at (inr l) = none (ap (λ (es : List Entry). above k (live v es)) (from_end p n r l))
 
     pub owned : Owns p v k n (record { page = last_alive p v r; next = r })
     owned = at (less r n)

@@ -14,8 +14,6 @@ use Rattle.model.specs.Entry.{pair, pair_of, live_at, before}
 use Rattle.model.specs.Walk.{find, between, around, followed}
 use Rattle.model.specs.Layout.{read_entries}
 use Rattle.model.specs.Near.{starts_by}
-use Rattle.model.specs.Calls.{looked_at}
-use Rattle.model.specs.declared.Looked.TheVariants.{Value, Absent}
 use Rattle.model.proofs.lists.Lists.{both_true}
 use Rattle.page.proofs.laws.Read.{entries-step, entries-end}
 use Rattle.walk.specs.Live.{live}
@@ -114,15 +112,14 @@ unfolding first
 find_none k xs h = find_first k xs ∙ ap first h
 
 -- and where the search for a key ended tells its answer
-pub next-found : (p : List ℕ) (v k n i : ℕ) → Next p v k k 0 n i → answer_at p n i ≡ looked_at (find k (live v (from p 0 n)))
+pub next-found : (p : List ℕ) (v k n i : ℕ) → Next p v k k 0 n i → answer_at p n i ≡ find k (live v (from p 0 n))
 next-found p v k n i x = at (ltb i n) refl where
-  at : (b : Bool) → ltb i n ≡ b → pick b (Value (entry p i).value) Absent ≡ looked_at (find k (live v (from p 0 n)))
+  at : (b : Bool) → ltb i n ≡ b → pick b (some (entry p i).value) none ≡ find k (live v (from p 0 n))
   at true e =
-      sym (ap looked_at (find-found k (pair_of (entry p i)) (live v (from p 0 n)) (between k k (live v (from p (i + 1) n)))
-      (x.same ∙ x.here (ltb-true i n e))))
+      sym (find-found k (pair_of (entry p i)) (live v (from p 0 n)) (between k k (live v (from p (i + 1) n))) (x.same ∙ x.here (ltb-true i n e)))
   at false e =
       let here : i ≡ n = omega (arith, x.within, ltb-false i n e) in
-      sym (ap looked_at (find_none k (live v (from p 0 n)) (rw here at x.same ∙ next-none p v k k n)))
+      sym (find_none k (live v (from p 0 n)) (rw here at x.same ∙ next-none p v k k n))
 
 -- what the search has so far: before place i the last one leads to page c
 pub record Owning (p : List ℕ) (v k n i c : ℕ) : Type 0 where

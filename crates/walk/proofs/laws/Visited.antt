@@ -16,11 +16,13 @@ use Rattle.model.specs.Layout.{decode}
 use Rattle.model.specs.Calls.{rule, first_of}
 use Rattle.model.specs.Told.{told_in, told_by}
 use Rattle.model.specs.Visited.{page_number}
+use Rattle.std.specs.Prelude.{Ok, Err}
+use Rattle.model.specs.declared.refusal.ListRefusal.TheVariants.{TooShort}
+use Rattle.model.specs.Refusals.{listed_in}
 use Rattle.model.specs.Lent.{Listed, listed}
 use Rattle.model.proofs.sound.Ready.{level-used}
 use Rattle.model.proofs.reading.Visits.{visits-count, pages-told}
 use Rattle.store.proofs.laws.Sure.{whole, sure}
-use Rattle.walk.specs.Counted.{with_list}
 use Rattle.walk.specs.Covers.{Covers}
 use Rattle.walk.proofs.laws.Covers.{covers-own}
 use Rattle.walk.specs.Sure.{Walkable}
@@ -51,12 +53,12 @@ module _ (s : Store) (k v : ℕ) (ns : List ℕ) (up : ℕ) (e : up ≡ height_o
   count : up + 1 ≡ length (lookup_visits s k v)
   count = omega (arith, visits-count s k v)
 
-  pub visits-short : length ns < up + 1 → with_list (record { number = 14; count = up + 1 }) ns ≡ told ns (lookup_visits s k v)
+  pub visits-short : length ns < up + 1 → listed_in (Err (TooShort (up + 1))) ns ≡ told ns (lookup_visits s k v)
   visits-short h =
       ap (λ (n : ℕ). record { number = 14; count = n; list = ns }) count ∙ sym (short ns (lookup_visits s k v) (omega (arith, count)))
 
   pub visits-all : up + 1 ≤ length ns → (ns' : List ℕ) → ns' ≡ sets ns 0 (lookup_visits s k v)
-      → with_list (record { number = 0; count = up + 1 }) ns' ≡ told ns (lookup_visits s k v)
+      → listed_in (Ok (up + 1)) ns' ≡ told ns (lookup_visits s k v)
   visits-all h ns' w =
       ap₂ (λ (n : ℕ) (us : List ℕ). record { number = 0; count = n; list = us }) count w
       ∙ sym (enough ns (lookup_visits s k v) (omega (arith, count)))

@@ -2,8 +2,6 @@
 use Prim.Native.Nat.{ℕ}
 use mathlib.Core.Path.{ap, sym, ◌∙◌}
 use mathlib.Core.List.{List}
-use borrow.Author.Rules.{rules}
-use Rattle.model.specs.Calls.{looked_at}
 use Rattle.model.specs.Layout.{decode}
 use Rattle.model.specs.Walk.{find}
 use Rattle.model.specs.Store.{page}
@@ -18,7 +16,7 @@ use Rattle.walk.proofs.lookup.Goals.{After-head_of-h}
 pub part-p-requires : goal.part-p-requires
 part-p-requires c =
     let r = c.requires.0 in
-    (r.edition, (covers-inside r _ _ _ c.leaf_for.ensures.covers).part, few r.edition c.args.s.now r.sound)
+    ((covers-inside r _ _ _ c.leaf_for.ensures.covers).part, few r.edition c.args.s.now r.sound)
 
 pub place_of-i-requires : goal.place_of-i-requires
 place_of-i-requires c =
@@ -34,6 +32,6 @@ returns c =
     let i = covers-inside c.requires.0 _ _ _ c.leaf_for.ensures.covers in
     rw (c.head_of-h.ensures, c.part-p.ensures.0) at
     (c.answer_at.ensures ∙ next-found _ a.v a.key _ c.place_of-i.result c.place_of-i.ensures)
-    ∙ sym (ap (λ (n : ℕ). looked_at (find a.key (pairs_at a.v (page (decode a.l.least a.s.now).pages n))))
+    ∙ sym (ap (λ (n : ℕ). find a.key (pairs_at a.v (page (decode a.l.least a.s.now).pages n)))
     (sym c.leaf_for.ensures.is)
-    ∙ ap (λ (xs : List Pair). looked_at (find a.key xs)) (i.pairs a.v))
+    ∙ ap (λ (xs : List Pair). find a.key xs) (i.pairs a.v))

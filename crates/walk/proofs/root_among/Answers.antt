@@ -1,10 +1,9 @@
 -- `root_among` meets its contract. Assumes nothing.
-use Prim.Native.Nat.{ℕ, suc, ◌≤◌, ◌-◌, ◌*◌}
+use Prim.Native.Nat.{ℕ, suc, ◌-◌, ◌*◌}
 use native.Mathlib.Omega.{arith}
 use mathlib.Core.List.{List}
 use mathlib.Core.Path.{◌≡◌, ap, sym, ◌∙◌}
-use borrow.Author.Rules.{rules}
-use Rattle.model.specs.Layout.{read_slots, decode}
+use Rattle.model.specs.Layout.{read_slots}
 use Rattle.model.specs.Walk.{root_at}
 use Rattle.model.specs.declared.Header.{Header}
 use Rattle.model.specs.declared.Slot.{Slot}
@@ -15,11 +14,11 @@ use Rattle.walk.proofs.root_among.Goals as goal
 pub header-h-requires : goal.header-h-requires
 header-h-requires c =
     let p = c.requires in
-    (p.0, omega (arith, p.1.front), p.1.few)
+    (omega (arith, p.front), p.few)
 
 pub loop-i-init : goal.loop-i-init
 loop-i-init c =
-    let e = c.wide-i.ensures ∙ ap (λ (h : Header). h.roots) c.header-h.ensures in (
+    let e = ap (λ (h : Header). h.roots) c.header-h.ensures in (
       omega arith,
       rw e (ap (λ (xs : List Slot). root_at xs c.args.v) (slots-of c.args.l.least c.args.s.now)),
     )
@@ -27,8 +26,8 @@ loop-i-init c =
 pub slot-x-requires : goal.slot-x-requires
 slot-x-requires c =
     let p = c.requires in
-    let e = c.wide-i.ensures ∙ ap (λ (h : Header). h.roots) c.header-h.ensures in
-    (p.0, p.1.front, omega (arith, p.1.roots, e), p.1.few)
+    let e = ap (λ (h : Header). h.roots) c.header-h.ensures in
+    (p.front, omega (arith, p.roots, e), p.few)
 
 pub returns-then-x-v : goal.returns-then-x-v
 returns-then-x-v c =
@@ -36,7 +35,7 @@ returns-then-x-v c =
     let l = c.loop-i in
     let x = c.slot-x.ensures in
     let e : l.i ≡ suc (l.i - 1) = omega (arith, c.loop-i-test.true) in
-    c.wide.ensures ∙ ap (λ (z : Slot). z.root) x
+    ap (λ (z : Slot). z.root) x
     ∙ sym (l.invariant.1 ∙ ap (λ (n : ℕ). root_at (read_slots a.s.now (512 * a.l.least) n) a.v) e
     ∙ root-here a.s.now (512 * a.l.least) a.v (l.i - 1) (rw x at c.if-x-v.true))
 

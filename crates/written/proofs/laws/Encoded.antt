@@ -19,7 +19,7 @@ use Rattle.model.specs.Store.{Store, page}
 use Rattle.model.specs.Layout.{magic, header_parts, header_bytes, header_of, size_of, encode, decode}
 use Rattle.model.specs.Clean.{clean}
 use Rattle.model.specs.Sound.{sound, rule1, rule2, rule3, rule4, rule5, rule6, rule7}
-use Rattle.model.specs.declared.Verdict.{Verdict}
+use Rattle.model.specs.Verdict.{Verdict}
 use Rattle.model.specs.Judged.{length_ok, magic_ok, edition_ok, judged}
 use Rattle.model.specs.ByRule.{Sound}
 use Rattle.model.proofs.lists.Lists.{both-intro}

@@ -1,30 +1,24 @@
 -- `visits` meets its contract: by the edition lent. Assumes nothing.
 use Prim.Native.Nat.{ℕ}
 use mathlib.Core.Path.{◌∙◌}
-use borrow.Author.Rules.{rules}
 use Rattle.model.specs.Lent.{Listed, visits_lent}
 use Rattle.model.specs.Any.{visits_any}
-use Rattle.store.proofs.laws.Editions.{is-edition, refused-early, gone-on}
+use Rattle.store.proofs.laws.Editions.{refused-early, gone-on}
+use Rattle.store.proofs.laws.Refused.{listed-err}
 use Rattle.calls.proofs.any.visits.Goals as goal
 
-pub returns-then-e-ne0 : goal.returns-then-e-ne0
+pub returns-in_err-edition_lent : goal.returns-in_err-edition_lent
 unfolding visits_any
-returns-then-e-ne0 c =
-    let a = c.args in
-    let b = a.s.now in
-    let e = c.edition_lent-e in
-    refused-early e.result b e.ensures {A = Listed} (λ (n : ℕ). record { number = n; count = 0; list = a.list.now })
-    (λ (least : ℕ). visits_lent least b a.key a.v a.list.now) c.if-e-ne0.true
-
-pub visits_in-requires : goal.visits_in-requires
-visits_in-requires c = let e = c.edition_lent-e in is-edition e.result c.args.s.now e.ensures
+returns-in_err-edition_lent c =
+    let a = c.args in let b = c.args.s.now in
+    listed-err _ c.args.list.now _ c.from_residual.ensures.1
+    ∙ refused-early b {A = Listed} (λ (n : ℕ). record { number = n; count = 0; list = a.list.now })
+    (λ (least : ℕ). visits_lent least b a.key a.v a.list.now) _ c.in_err-edition_lent.ensures
 
 pub returns : goal.returns
 unfolding visits_any
 returns c =
-    let a = c.args in
-    let b = a.s.now in
-    let e = c.edition_lent-e in
+    let a = c.args in let b = c.args.s.now in
     c.visits_in.ensures
-    ∙ gone-on e.result b e.ensures {A = Listed} (λ (n : ℕ). record { number = n; count = 0; list = a.list.now })
-    (λ (least : ℕ). visits_lent least b a.key a.v a.list.now) c.if-e-ne0.false
+    ∙ gone-on b {A = Listed} (λ (n : ℕ). record { number = n; count = 0; list = a.list.now })
+    (λ (least : ℕ). visits_lent least b a.key a.v a.list.now) c.in_ok-edition_lent.field-0 c.in_ok-edition_lent.ensures

@@ -1,27 +1,21 @@
 -- `commit` meets its contract. Assumes nothing.
-use mathlib.Core.Path.{sym, ◌∙◌}
-use borrow.Author.Rules.{rules}
+use mathlib.Core.Path.{refl, sym, ◌∙◌}
+use Rattle.store.proofs.laws.Refused.{refuses-some, leaving-err}
+use Rattle.reads.proofs.laws.Guard.{guard-sound}
 use Rattle.changes.specs.Turning.{committing}
 use Rattle.changes.proofs.laws.Turning.{commit-refused, commit-done}
-use Rattle.reads.proofs.laws.Guard.{guard-sound}
 use Rattle.changes.proofs.sure.commit.Goals as goal
 
-pub guard_committing-n-requires : goal.guard_committing-n-requires
-guard_committing-n-requires c = c.requires
-
-pub returns-then-n-ne0 : goal.returns-then-n-ne0
-returns-then-n-ne0 c =
-    let a = c.args in
-    commit-refused a.l.least a.s.now c.guard_committing-n.result c.guard_committing-n.ensures c.if-n-ne0.true
+pub returns-in_err-guard_committing : goal.returns-in_err-guard_committing
+returns-in_err-guard_committing c =
+    let a = c.args in let e = c.in_err-guard_committing in
+    leaving-err _ a.s.now _ c.from_residual.ensures.1 ∙ commit-refused a.l.least a.s.now _ e.ensures (refuses-some e.field-0.0)
 
 pub commit-requires : goal.commit-requires
 commit-requires c =
     let a = c.args in
-    let z = sym c.guard_committing-n.ensures ∙ c.if-n-ne0.false in
-    (c.requires.0, guard-sound a.l.least a.s.now committing z)
+    let z = sym c.in_ok-guard_committing.ensures in
+    (guard-sound a.l.least a.s.now committing z)
 
 pub returns : goal.returns
-returns c =
-    let a = c.args in
-    commit-done a.l.least a.s.now c.guard_committing-n.result c.guard_committing-n.ensures
-    c.if-n-ne0.false _ c.commit.ensures
+returns c = let a = c.args in commit-done a.l.least a.s.now 0 c.in_ok-guard_committing.ensures refl _ c.commit.ensures

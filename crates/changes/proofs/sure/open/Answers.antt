@@ -1,27 +1,21 @@
 -- `open` meets its contract. Assumes nothing.
-use mathlib.Core.Path.{sym, ◌∙◌}
-use borrow.Author.Rules.{rules}
+use mathlib.Core.Path.{refl, sym, ◌∙◌}
+use Rattle.store.proofs.laws.Refused.{refuses-some, leaving-err}
+use Rattle.reads.proofs.laws.Guard.{guard-sound}
 use Rattle.changes.specs.Turning.{opening}
 use Rattle.changes.proofs.laws.Turning.{open-refused, open_done}
-use Rattle.reads.proofs.laws.Guard.{guard-sound}
 use Rattle.changes.proofs.sure.open.Goals as goal
 
-pub guard_opening-n-requires : goal.guard_opening-n-requires
-guard_opening-n-requires c = c.requires
-
-pub returns-then-n-ne0 : goal.returns-then-n-ne0
-returns-then-n-ne0 c =
-    let a = c.args in
-    open-refused a.l.least a.s.now c.guard_opening-n.result c.guard_opening-n.ensures c.if-n-ne0.true
+pub returns-in_err-guard_opening : goal.returns-in_err-guard_opening
+returns-in_err-guard_opening c =
+    let a = c.args in let e = c.in_err-guard_opening in
+    leaving-err _ a.s.now _ c.from_residual.ensures.1 ∙ open-refused a.l.least a.s.now _ e.ensures (refuses-some e.field-0.0)
 
 pub begin-requires : goal.begin-requires
 begin-requires c =
     let a = c.args in
-    let z = sym c.guard_opening-n.ensures ∙ c.if-n-ne0.false in
-    (c.requires.0, guard-sound a.l.least a.s.now opening z)
+    let z = sym c.in_ok-guard_opening.ensures in
+    (guard-sound a.l.least a.s.now opening z)
 
 pub returns : goal.returns
-returns c =
-    let a = c.args in
-    open_done a.l.least a.s.now c.guard_opening-n.result c.guard_opening-n.ensures
-    c.if-n-ne0.false _ c.begin.ensures
+returns c = let a = c.args in open_done a.l.least a.s.now 0 c.in_ok-guard_opening.ensures refl _ c.begin.ensures

@@ -2,7 +2,6 @@ use Rattle.group.specs.Group.{routers_of}
 use native.Mathlib.Omega.{arith}
 use Rattle.parts.proofs.laws.Becomes.{kept-after, inside-after}
 use Rattle.climb.proofs.laws.Rebuild.{one-filled}
-use borrow.Author.Rules.{rules}
 use Rattle.climb.proofs.refill.one_page.Goals as goal
 
 pub retire-requires : goal.retire-requires

@@ -3,7 +3,6 @@ use Prim.Native.Nat.{◌+◌, ◌/◌}
 use native.Mathlib.Omega.{arith}
 use Rattle.parts.proofs.laws.Becomes.{kept-after, inside-after, then}
 use Rattle.climb.proofs.laws.Rebuild.{both-filled}
-use borrow.Author.Rules.{rules}
 use Rattle.climb.proofs.refill.two_pages.Goals as goal
 
 pub retire-requires : goal.retire-requires

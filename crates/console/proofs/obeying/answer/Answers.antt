@@ -3,10 +3,10 @@ use native.Mathlib.Omega.{arith}
 use Rattle.console.proofs.Replying.{nothing-heard}
 use Rattle.console.proofs.obeying.answer.Goals as goal
 
-pub returns-in-Whole : goal.returns-in-Whole
-returns-in-Whole c = rw c.in-Whole.is c.obey.ensures
+pub returns-in-Some : goal.returns-in-Some
+returns-in-Some c = rw c.in-Some.is c.obey.ensures
 
-pub returns-in-Nothing : goal.returns-in-Nothing
-returns-in-Nothing c =
+pub returns-in-None : goal.returns-in-None
+returns-in-None c =
     let a = c.args in
-    rw c.in-Nothing.is (nothing-heard a.bytes.now a.pages a.out.now a.at (omega arith) c.requires.pages_bound.3)
+    rw c.in-None.is (nothing-heard a.bytes.now a.pages a.out.now a.at (omega arith) c.requires.pages_bound.3)

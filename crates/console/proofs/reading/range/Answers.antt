@@ -1,8 +1,10 @@
 -- A range is answered: refused, or its count and the settings in the list. Assumes nothing.
 use Prim.Native.Nat.{◌*◌, ◌≤◌}
-use mathlib.Core.Path.{◌≡◌, ap}
+use mathlib.Core.Path.{◌≡◌, refl, ap}
+use Rattle.std.specs.Prelude.{Ok, Err}
+use Rattle.model.specs.Refusals.{listed_in}
+use Rattle.console.proofs.Refusing.{listed-refusal}
 use Rattle.model.specs.declared.Limits.{Limits}
-use Rattle.page.proofs.laws.Editions.{edition-of}
 use Rattle.console.proofs.Ranging.{count_fits, range_none, range-refused, range-done}
 use native.Mathlib.Omega.{arith}
 use Rattle.console.proofs.Keeping.{front}
@@ -16,36 +18,32 @@ returns-then-pages-eq0 c =
 pub slice_bounds-range-end : goal.slice_bounds-range-end
 slice_bounds-range-end c = let a = c.args in front a.bytes.now a.pages (omega arith) (omega arith)
 
-pub range-r-requires : goal.range-r-requires
-range-r-requires c =
+pub range-requires : goal.range-requires
+range-requires c =
     let l = c.edition_one-l in
-    let four = ap (λ (x : Limits). x.least) l.ensures.one in
-    (edition-of 4 l.ensures.one (omega arith) (omega arith), rw four (c.requires.3 (omega arith)))
+    let four = l.ensures.one in
+    rw four (c.requires.3 (omega arith))
 
-pub returns-then-r-ne0 : goal.returns-then-r-ne0
-returns-then-r-ne0 c =
+pub overflow_cast-result : goal.overflow_cast-result
+overflow_cast-result c =
     let a = c.args in
-    let r = c.range-r in
-    let l = c.edition_one-l in
-    let four : l.result.least ≡ 4 = ap (λ (x : Limits). x.least) l.ensures.one in
-    range-refused a.bytes.now a.pages a.low a.high a.v a.list.now r.new.list r.result (omega arith)
-    (omega arith) (rw four at r.ensures) c.requires.3 c.if-r-ne0.true
-
-pub overflow_cast-found : goal.overflow_cast-found
-overflow_cast-found c =
-    let a = c.args in
-    let r = c.range-r in
-    let l = c.edition_one-l in
-    let four : l.result.least ≡ 4 = ap (λ (x : Limits). x.least) l.ensures.one in
-    let few : 2 * r.result.count ≤ 10040 = count_fits a.bytes.now a.pages a.low a.high a.v a.list.now
-    r.new.list r.result (omega arith) (omega arith) (rw four at r.ensures) c.if-r-ne0.false in
+    let four : c.edition_one-l.result.least ≡ 4 = c.edition_one-l.ensures.one in
+    let few : 2 * c.in-Ok.count ≤ 10040 = count_fits a.bytes.now a.pages a.low a.high a.v a.list.now
+    (listed_in (Ok c.in-Ok.count) c.range.new.list) (omega arith) (omega arith) (rw four at c.in-Ok.ensures) refl in
     omega arith
 
-pub returns : goal.returns
-returns c =
+pub returns-in-Ok : goal.returns-in-Ok
+returns-in-Ok c =
     let a = c.args in
-    let r = c.range-r in
-    let l = c.edition_one-l in
-    let four : l.result.least ≡ 4 = ap (λ (x : Limits). x.least) l.ensures.one in
-    range-done a.bytes.now a.pages a.low a.high a.v a.list.now r.new.list r.result (omega arith)
-    (omega arith) (rw four at r.ensures) c.requires.3 c.if-r-ne0.false
+    let four : c.edition_one-l.result.least ≡ 4 = c.edition_one-l.ensures.one in
+    range-done a.bytes.now a.pages a.low a.high a.v a.list.now (listed_in (Ok c.in-Ok.count) c.range.new.list) (omega arith)
+    (omega arith) (rw four at c.in-Ok.ensures) c.requires.3 refl
+
+pub returns-in-Err : goal.returns-in-Err
+returns-in-Err c =
+    let a = c.args in
+    let e = c.in-Err.refusal in
+    let four : c.edition_one-l.result.least ≡ 4 = c.edition_one-l.ensures.one in
+    rw c.number.ensures
+    (range-refused a.bytes.now a.pages a.low a.high a.v a.list.now (listed_in (Err e) c.range.new.list) (omega arith)
+    (omega arith) (rw four at c.in-Err.ensures) c.requires.3 (listed-refusal e))

@@ -1,5 +1,6 @@
 use Prim.Native.Nat.{◌*◌}
 use mathlib.Core.Path.{sym, subst, ◌∙◌}
+use mathlib.Core.Logic.{inl, inr}
 use Rattle.console.specs.declared.Reply.{Reply}
 use Rattle.console.specs.Obeys.{Single}
 use Rattle.lines.specs.Session.{stored}
@@ -13,13 +14,10 @@ pub returns-then-n-lt6 : goal.returns-then-n-lt6
 returns-then-n-lt6 c =
     let a = c.args in
     subst (λ (r : Reply). Single (stored 4 (store_in a.bytes.now a.pages) a.n) a.bytes.now r) (sym c.told.ensures)
-    (few-kept a.bytes.now a.n a.pages (omega arith) c.requires.2 (omega arith))
-
-pub returns-then-n-gt256 : goal.returns-then-n-gt256
-returns-then-n-gt256 c =
-    let a = c.args in
-    subst (λ (r : Reply). Single (stored 4 (store_in a.bytes.now a.pages) a.n) a.bytes.now r) (sym c.told-then-n-gt256.ensures)
-    (many-kept a.bytes.now a.n a.pages (omega arith) c.requires.2 (omega arith))
+    (elim c.then-n-lt6.either [
+      | inl few ↦ few-kept a.bytes.now a.n a.pages (omega arith) c.requires.2 few
+      | inr many ↦ many-kept a.bytes.now a.n a.pages (omega arith) c.requires.2 many.1
+    ])
 
 pub slice_bounds-fresh-end-2 : goal.slice_bounds-fresh-end-2
 slice_bounds-fresh-end-2 c = front c.args.bytes.now c.args.n (omega arith) (omega arith)

@@ -2,6 +2,7 @@
 use Prim.Native.Nat.{ℕ}
 use native.Mathlib.Omega.{arith}
 use Rattle.model.specs.Lent.{delete_lent}
+use Rattle.model.specs.Refusals.{number_in}
 use Rattle.console.specs.Obeys.{store_in}
 use Rattle.console.proofs.Keeping.{front, asks, updated, delete-none}
 use Rattle.console.proofs.Staying.{delete-stays}
@@ -17,16 +18,16 @@ slice_bounds-delete-end-2 c =
     let a = c.args in
     front a.bytes.now a.pages (omega arith) (omega arith)
 
-pub delete-n-requires : goal.delete-n-requires
-delete-n-requires c =
+pub delete-r-requires : goal.delete-r-requires
+delete-r-requires c =
     let a = c.args in
     let l = c.edition_one-l in
     asks l.result l.ensures.one a.bytes.now a.pages c.requires.2 (omega arith)
 
 pub returns : goal.returns
 returns c =
-    let a = c.args in let r = c.delete-n in
-    updated (λ (n : ℕ). delete_lent n (store_in a.bytes.now a.pages) a.key) c.edition_one-l.result r.result
+    let a = c.args in let r = c.delete-r in
+    updated (λ (n : ℕ). delete_lent n (store_in a.bytes.now a.pages) a.key) c.edition_one-l.result (number_in r.result)
     a.bytes.now r.new.s a.pages c.told-2.result c.edition_one-l.ensures.one r.ensures c.told-2.ensures
     (omega arith) (omega arith) c.bytes-1.given.0
     (λ t. delete-stays (store_in a.bytes.now a.pages) (c.requires.2 t) a.key)

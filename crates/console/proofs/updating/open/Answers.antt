@@ -2,6 +2,7 @@
 use Prim.Native.Nat.{ℕ}
 use native.Mathlib.Omega.{arith}
 use Rattle.model.specs.Lent.{open_lent}
+use Rattle.model.specs.Refusals.{number_in}
 use Rattle.console.specs.Obeys.{store_in}
 use Rattle.console.proofs.Keeping.{front, asks, updated, open_none}
 use Rattle.console.proofs.Staying.{open_stays}
@@ -17,16 +18,16 @@ slice_bounds-open-end-2 c =
     let a = c.args in
     front a.bytes.now a.pages (omega arith) (omega arith)
 
-pub open-n-requires : goal.open-n-requires
-open-n-requires c =
+pub open-r-requires : goal.open-r-requires
+open-r-requires c =
     let a = c.args in
     let l = c.edition_one-l in
     asks l.result l.ensures.one a.bytes.now a.pages c.requires.2 (omega arith)
 
 pub returns : goal.returns
 returns c =
-    let a = c.args in let r = c.open-n in
-    updated (λ (n : ℕ). open_lent n (store_in a.bytes.now a.pages)) c.edition_one-l.result r.result
+    let a = c.args in let r = c.open-r in
+    updated (λ (n : ℕ). open_lent n (store_in a.bytes.now a.pages)) c.edition_one-l.result (number_in r.result)
     a.bytes.now r.new.s a.pages c.told-2.result c.edition_one-l.ensures.one r.ensures c.told-2.ensures
     (omega arith) (omega arith) c.bytes-1.given.0
     (λ t. open_stays (store_in a.bytes.now a.pages) (c.requires.2 t))

@@ -1,22 +1,24 @@
 -- `convert` meets its contract. Assumes nothing.
-use mathlib.Core.Path.{sym, ◌∙◌}
-use borrow.Author.Rules.{rules}
+use mathlib.Core.Path.{sym}
+use Rattle.std.proofs.lemmas.Result.{err_from_is_err_and}
+use Rattle.update.proofs.laws.Foreseen.{a_number}
 use Rattle.model.proofs.turning.Converting.{passes}
 use Rattle.convert.proofs.laws.Whole.{refused-so, done-so}
 use Rattle.convert.proofs.call.convert.Goals as goal
 
-pub returns-then-n-ne0 : goal.returns-then-n-ne0
-returns-then-n-ne0 c =
+pub returns-in_err-guard : goal.returns-in_err-guard
+returns-in_err-guard c =
     let a = c.args in
-    refused-so a.s.now a.t.now _ c.guard-n.ensures c.if-n-ne0.true
+    let r = err_from_is_err_and c.from_residual.result c.from_residual.ensures.1 in
+    rw (r.1, r.2) (refused-so a.s.now a.t.now _ c.in_err-guard.ensures (a_number c.in_err-guard.field-0.0))
 
 pub convert_in-requires : goal.convert_in-requires
 convert_in-requires c =
     let a = c.args in
-    let p = passes a.s.now a.t.now (sym c.guard-n.ensures ∙ c.if-n-ne0.false) in
+    let p = passes a.s.now a.t.now (sym c.in_ok-guard.ensures) in
     (p.sound, p.long)
 
 pub returns : goal.returns
 returns c =
     let a = c.args in
-    done-so a.s.now a.t.now (sym c.guard-n.ensures ∙ c.if-n-ne0.false) _ c.convert_in.ensures
+    done-so a.s.now a.t.now (sym c.in_ok-guard.ensures) _ c.convert_in.ensures

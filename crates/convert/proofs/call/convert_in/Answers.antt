@@ -1,35 +1,35 @@
 -- `convert_in` meets its contract. Assumes nothing.
 use mathlib.Core.Path.{refl, ◌∙◌}
-use borrow.Author.Rules.{rules}
+use Rattle.update.proofs.laws.Foreseen.{a_number}
 use Rattle.convert.proofs.laws.Whole.{fresh-made, starts, all_done, one-stops}
 use Rattle.convert.proofs.call.convert_in.Goals as goal
 
-pub replay-n-requires : goal.replay-n-requires
-replay-n-requires c =
+pub replay-requires : goal.replay-requires
+replay-requires c =
     let a = c.args in
     let p = c.requires in
     let f = c.fresh_second.ensures.1 ∙ fresh-made a.t.now a.t.now refl p.1 in
     let k = c.edition_one.ensures.one in
     let l = c.edition_two.ensures.two in
-    starts a.s.now a.t.now p.0 p.1 _ _ k l _ f
+    starts a.s.now a.t.now p.0 p.1 c.edition_one.result c.edition_two.result k l _ f
 
-pub returns-then-n-eq0 : goal.returns-then-n-eq0
-returns-then-n-eq0 c =
+pub returns-in-Ok : goal.returns-in-Ok
+returns-in-Ok c =
     let a = c.args in
     let p = c.requires in
     let f = c.fresh_second.ensures.1 ∙ fresh-made a.t.now a.t.now refl p.1 in
     let k = c.edition_one.ensures.one in
     let l = c.edition_two.ensures.two in
-    all_done a.s.now a.t.now p.0 p.1 _ _ k l _ f _ _ c.replay-n.ensures c.if-n-eq0.true
+    all_done a.s.now a.t.now p.0 p.1 c.edition_one.result c.edition_two.result k l _ f _ _ c.in-Ok.ensures refl
     (λ i. (c.slice_known-3-1.given i).fits)
 
-pub returns : goal.returns
-returns c =
+pub returns-in-Err : goal.returns-in-Err
+returns-in-Err c =
     let a = c.args in
     let p = c.requires in
     let f = c.fresh_second.ensures.1 ∙ fresh-made a.t.now a.t.now refl p.1 in
     let k = c.edition_one.ensures.one in
     let l = c.edition_two.ensures.two in
-    one-stops a.s.now a.t.now p.0 p.1 _ _ k l _ f _ _ c.replay-n.ensures c.if-n-eq0.false _
-    (c.fresh_second-2.ensures.1
-    ∙ fresh-made _ a.t.now (c.replay-n.auto.t ∙ c.fresh_second.auto.s) p.1)
+    one-stops a.s.now a.t.now p.0 p.1 c.edition_one.result c.edition_two.result k l _ f _ _ c.in-Err.ensures (a_number c.in-Err.r) _
+    (c.fresh_second-in-Err.ensures.1
+    ∙ fresh-made _ a.t.now (c.replay.auto.t ∙ c.fresh_second.auto.s) p.1)

@@ -1,7 +1,7 @@
 -- `move_on` meets its contract. Assumes nothing.
+use Rattle.model.proofs.Edition.{edition}
 use native.Mathlib.Omega.{arith}
 use mathlib.Core.Path.{◌∙◌}
-use borrow.Author.Rules.{rules}
 use Rattle.store.proofs.laws.Sure.{few, front}
 use Rattle.store.proofs.laws.Header.{header-fits}
 use Rattle.turn.proofs.laws.Turned.{kept}
@@ -12,18 +12,17 @@ pub header-h-requires : goal.header-h-requires
 header-h-requires c =
     let a = c.args in
     let p = c.requires in
-    (p.0, omega (arith, front p.0 a.t.now p.1), few p.0 a.t.now p.1)
+    (omega (arith, front (edition c.args.l) a.t.now p.0), few (edition c.args.l) a.t.now p.0)
 
 pub put_header-requires : goal.put_header-requires
 put_header-requires c =
     let a = c.args in
     let p = c.requires in
     let f = header-fits a.l.least a.t.now in (
-      p.0,
       rw (c.with_flag.ensures, c.with_version.ensures, c.header-h.ensures)
-          (record { pages = f.pages; current = p.2; roots = f.roots; oldest = f.oldest }),
-      omega (arith, front p.0 a.t.now p.1),
-      few p.0 a.t.now p.1,
+          (record { pages = f.pages; current = p.1; roots = f.roots; oldest = f.oldest }),
+      omega (arith, front (edition c.args.l) a.t.now p.0),
+      few (edition c.args.l) a.t.now p.0,
     )
 
 pub returns : goal.returns
@@ -31,5 +30,5 @@ returns c =
     let p = c.requires in
     rw (c.with_flag.ensures, c.with_version.ensures, c.header-h.ensures) at
     c.put_header.ensures
-    ∙ moved-bytes c.args.l.least p.0.four p.0.eight c.args.t.now
-    (kept p.0 c.args.t.now p.1 (λ i. (c.slice_known-1.given i).fits)) c.args.w p.2
+    ∙ moved-bytes c.args.l.least (edition c.args.l).four (edition c.args.l).eight c.args.t.now
+    (kept (edition c.args.l) c.args.t.now p.0 (λ i. (c.slice_known-1.given i).fits)) c.args.w p.1

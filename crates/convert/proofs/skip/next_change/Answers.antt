@@ -1,14 +1,12 @@
 -- `next_change` meets its contract: nothing of the pages before n starts or ends behind v and before q. Assumes nothing.
-use Prim.Native.Nat.{ℕ, ◌≤◌, ◌<◌, ◌-◌}
+use Rattle.model.proofs.Edition.{edition}
+use Prim.Native.Nat.{ℕ, ◌<◌}
 use native.Mathlib.Omega.{arith}
 use mathlib.Core.Path.{ap}
 use Rattle.model.specs.declared.Header.{Header}
-use Rattle.model.specs.Layout.{page_of, read_header, size_of}
-use Rattle.model.specs.Inner.{Out}
+use Rattle.model.specs.Layout.{page_of, size_of}
 use Rattle.store.proofs.laws.Sure.{front, few, part_in, whole}
 use Rattle.local.specs.Local.{slot_at}
-use Rattle.notes.specs.Ready.{BehindUpto}
-use Rattle.reach.specs.Versions.{QuietPart}
 use Rattle.convert.proofs.laws.Skip.{room, slots-less, parts_more}
 use Rattle.convert.proofs.skip.next_change.Goals as goal
 
@@ -16,15 +14,12 @@ pub header-h-requires : goal.header-h-requires
 header-h-requires c =
     let a = c.args in
     let p = c.requires in
-    (p.0, omega (arith, front p.0 a.s.now p.1), few p.0 a.s.now p.1)
-
-pub size-size-requires : goal.size-size-requires
-size-size-requires c = c.requires.0
+    (omega (arith, front (edition c.args.k) a.s.now p.0), few (edition c.args.k) a.s.now p.0)
 
 pub slots_change-q-requires : goal.slots_change-q-requires
 slots_change-q-requires c =
     let p = c.requires in
-    (p.0, p.1, c.header-h.ensures, p.2)
+    (p.0, c.header-h.ensures, p.1)
 
 pub loop-n-init : goal.loop-n-init
 loop-n-init c =
@@ -33,7 +28,7 @@ loop-n-init c =
     let n = ap (λ (h : Header). h.roots) c.header-h.ensures in
     let x = c.slots_change-q.ensures in (
       omega arith,
-      omega (arith, c.size-size.ensures, (whole p.0 a.s.now p.1).six),
+      omega (arith, c.size-size.ensures, (whole (edition c.args.k) a.s.now p.0).six),
       x.0,
       λ i l. x.1 i (omega (arith, l, n)),
       λ m five l. absurd (omega (arith, five, l)),
@@ -43,10 +38,9 @@ pub part-requires : goal.part-requires
 part-requires c =
     let a = c.args in
     let p = c.requires in (
-      p.0,
-      part_in p.0 a.s.now p.1 c.loop-n.n
+      part_in (edition c.args.k) a.s.now p.0 c.loop-n.n
           (omega (arith, c.loop-n-test.true, c.size-size.ensures)),
-      few p.0 a.s.now p.1,
+      few (edition c.args.k) a.s.now p.0,
     )
 
 pub page_change-q-requires : goal.page_change-q-requires
@@ -55,16 +49,7 @@ page_change-q-requires c =
     let p = c.requires in
     let i = c.loop-n in
     let less : i.n < size_of a.k.least a.s.now = omega (arith, c.loop-n-test.true, c.size-size.ensures) in
-    (p.0, c.part.ensures.1, rw c.part.ensures.0 (room p.0 a.s.now p.1 i.n i.invariant.0 less), i.invariant.2.above)
-
-pub overflow_add-n : goal.overflow_add-n
-overflow_add-n c =
-    let a = c.args in
-    let p = c.requires in
-    omega (arith, c.loop-n-test.true, c.size-size.ensures, (whole p.0 a.s.now p.1).most)
-
-pub loop-n-smaller : goal.loop-n-smaller
-loop-n-smaller c = omega (arith, c.loop-n-test.true)
+    (c.part.ensures.1, rw c.part.ensures.0 (room (edition c.args.k) a.s.now p.0 i.n i.invariant.0 less), i.invariant.2.above)
 
 pub loop-n-preserved : goal.loop-n-preserved
 loop-n-preserved c =

@@ -4,13 +4,11 @@ use Rattle.walk.proofs.laws.Sure.{covers-inside}
 use Rattle.cursor.proofs.laws.Leaf.{below-covers}
 use Rattle.store.proofs.laws.Sure.{few}
 use mathlib.Core.Path.{sym, ◌∙◌}
-use borrow.Author.Rules.{rules}
 use Rattle.differ.proofs.leaves.alike.Goals as goal
 
 pub part-p-requires : goal.part-p-requires
 part-p-requires c =
     let r = c.requires.0 in (
-      r.edition,
       (covers-inside r _ _ _ (below-covers r _ _ _ c.requires.2)).part,
       few r.edition c.args.s.now r.sound,
     )

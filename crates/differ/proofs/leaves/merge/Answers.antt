@@ -1,9 +1,6 @@
 -- `merge` meets its contract. Assumes nothing.
-use Rattle.differ.proofs.laws.Halfway.{Halfway, half-start, half-end, half-on, half-space, half-old, half-new, half_step}
-use Rattle.model.specs.Walk.{key_limit}
+use Rattle.differ.proofs.laws.Halfway.{half-start, half-end, half-on, half-space, half-old, half-new, half_step}
 use native.Mathlib.Omega.{arith}
-use Prim.Native.Nat.{◌+◌, ◌-◌}
-use borrow.Author.Rules.{rules}
 use Rattle.differ.proofs.leaves.merge.Goals as goal
 
 pub side_from-x-requires : goal.side_from-x-requires

@@ -1,9 +1,7 @@
 -- `merge` meets its contract. Assumes nothing.
-use Rattle.differ.proofs.laws.Halfway.{Halfway, half-start, half-end, half-on, half-space, half-old, half-new, half_step}
+use Rattle.differ.proofs.laws.Halfway.{Halfway}
 use Rattle.model.specs.Walk.{key_limit}
-use native.Mathlib.Omega.{arith}
 use Prim.Native.Nat.{◌+◌, ◌-◌}
-use borrow.Author.Rules.{rules}
 use Rattle.differ.proofs.leaves.merge.Given as goal
 
 abbrev pub invariant-loop-key : goal.invariant-loop-key

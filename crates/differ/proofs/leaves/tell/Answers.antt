@@ -6,7 +6,6 @@ use Rattle.walk.proofs.laws.Sure.{covers-inside}
 use Rattle.cursor.proofs.laws.Leaf.{below-covers}
 use Rattle.store.proofs.laws.Sure.{few}
 use mathlib.Core.Path.{sym, ◌∙◌, subst}
-use borrow.Author.Rules.{rules}
 use Rattle.model.specs.Telling.{Space, Gathers, deltas}
 use Rattle.differ.proofs.leaves.tell.Goals as goal
 
@@ -17,7 +16,7 @@ part-p-requires c =
     let q = c.requires.1 in
     let g = c.requires.2 in
     let f = c.requires.3 in
-    (r.edition, (covers-inside r _ _ _ (below-covers r _ _ _ g)).part, few r.edition a.s.now r.sound)
+    ((covers-inside r _ _ _ (below-covers r _ _ _ g)).part, few r.edition a.s.now r.sound)
 
 pub same-requires : goal.same-requires
 same-requires c =
@@ -47,7 +46,7 @@ part-q-requires c =
     let q = c.requires.1 in
     let g = c.requires.2 in
     let f = c.requires.3 in
-    (q.edition, (covers-inside q _ _ _ (below-covers q _ _ _ f)).part, few q.edition a.s.now q.sound)
+    ((covers-inside q _ _ _ (below-covers q _ _ _ f)).part, few q.edition a.s.now q.sound)
 
 pub merge-requires : goal.merge-requires
 merge-requires c =

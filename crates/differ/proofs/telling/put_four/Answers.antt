@@ -5,7 +5,6 @@ use Prim.Native.Nat.{suc, ◌+◌, ◌*◌}
 use mathlib.Core.Path.{◌≡◌}
 use lib.ListN.{length-set}
 use native.Mathlib.Omega.{arith}
-use borrow.Author.Rules.{rules}
 use Rattle.differ.proofs.telling.put_four.Goals as goal
 
 pub bounds-list-k-2 : goal.bounds-list-k-2

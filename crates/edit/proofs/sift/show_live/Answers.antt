@@ -9,30 +9,28 @@ use Rattle.model.specs.Layout.{lives, read_entries}
 use Rattle.model.proofs.lists.Lists.{few-those}
 use Rattle.page.specs.Head.{put_live}
 use Rattle.page.proofs.laws.Read.{length-entries}
-use borrow.Author.Rules.{rules}
 use Rattle.edit.proofs.sift.show_live.Goals as goal
 
-pub returns-then-l-le4 : goal.returns-then-l-le4
+pub returns-else-l-gt4 : goal.returns-else-l-gt4
 unfolding put_live put_field
-returns-then-l-le4 c = rw (le-leb c.args.l.least 4 c.if-l-le4.true)
+returns-else-l-gt4 c = rw (le-leb c.args.l.least 4 c.if-l-gt4.false)
 
 pub put_live-requires : goal.put_live-requires
 put_live-requires c =
     let a = c.args in (
-      c.requires.0,
       omega (
         arith,
         c.live_among-live.ensures,
         few-those lives (read_entries a.page.now 128 a.count),
         length-entries a.page.now 128 a.count,
-        c.requires.1,
+        c.requires.0,
       ),
-      omega (arith, c.requires.2),
-      c.requires.3,
+      omega (arith, c.requires.1),
+      c.requires.2,
     )
 
-pub returns : goal.returns
-returns c =
+pub returns-then-l-gt4 : goal.returns-then-l-gt4
+returns-then-l-gt4 c =
     let a = c.args in
     c.put_live.ensures
     ∙ ap (λ (n : ℕ). put_live a.l.least a.page.now (live_shown a.l.least n)) c.live_among-live.ensures

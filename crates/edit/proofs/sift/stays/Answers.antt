@@ -8,7 +8,6 @@ use Rattle.model.specs.Layout.{read_entry}
 use Rattle.edit.specs.declared.sift.Rule.{Rule}
 use Rattle.edit.specs.Fate.{fate_of}
 use Rattle.edit.proofs.laws.Fate.{stay-other, stay-apart}
-use borrow.Author.Rules.{rules}
 use Rattle.edit.proofs.sift.stays.Goals as goal
 
 pub returns-in-Kill : goal.returns-in-Kill

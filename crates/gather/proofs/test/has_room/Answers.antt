@@ -1,23 +1,17 @@
+-- `gather::test::has_room` meets its contract: an entry more for each pair, or counted. Assumes nothing.
 use native.Mathlib.Omega.{arith}
 use Prim.Native.Nat.{◌≤◌, ◌*◌}
 use mathlib.Core.Path.{◌≡◌, ap, sym, ◌∙◌}
 use borrow.Author.Tests.{le-leb}
 use lib.ListN.{length}
 use Rattle.model.specs.Page.{changed}
-use Rattle.model.specs.Layout.{count_of, decode_page}
-use Rattle.page.proofs.laws.Read.{count-of, entries-of, length-entries}
+use Rattle.model.specs.Layout.{decode_page}
+use Rattle.page.proofs.laws.Read.{count_read, entries-of, length-entries}
 use Rattle.page.proofs.laws.Editions.{room-is}
 use Rattle.edit.specs.Change.{change_of}
 use Rattle.gather.proofs.laws.Tests.{changed-few}
-use borrow.Author.Rules.{rules}
 use Rattle.gather.proofs.test.has_room.Goals as goal
 use Rattle.gather.proofs.test.has_room.Goals.{After-head_of-h}
-
--- the entries of the page
-count-is : (c : After-head_of-h) →
-    c.head_of-h.result.count ≡ count_of c.args.l.least c.args.page.now
-count-is c =
-    ap (λ h. h.count) c.head_of-h.ensures ∙ sym (count-of c.args.l.least c.args.page.now)
 
 long-is : (c : After-head_of-h) →
     length (decode_page c.args.l.least c.args.page.now).entries ≡ c.head_of-h.result.count
@@ -27,7 +21,7 @@ long-is c =
     ap length (entries-of least p) ∙ length-entries p 128 _ ∙ sym (ap (λ h. h.count) c.head_of-h.ensures)
 
 pub overflow_add-h : goal.overflow_add-h
-overflow_add-h c = omega (arith, count-is (goal.at.overflow_add-h c).After-head_of-h, c.requires.0.room, c.requires.0.edition.eight, c.requires.1.takes)
+overflow_add-h c = omega (arith, count_read _ _ c.head_of-h.ensures, c.requires.0.room, c.requires.0.edition.eight, c.requires.1.takes)
 
 pub returns-then-h-c : goal.returns-then-h-c
 returns-then-h-c c =
@@ -42,7 +36,7 @@ returns-then-h-c c =
           c.requires.1,
       room-is c.requires.0.edition,
     ) in
-    sym (le-leb _ _ few)
+    le-leb _ _ c.if-h-c.true ∙ sym (le-leb _ _ few)
 
-pub returns : goal.returns
-returns c = rw (c.after.ensures, room-is c.requires.0.edition)
+pub returns-else-h-c : goal.returns-else-h-c
+returns-else-h-c c = rw (c.after.ensures, room-is c.requires.0.edition)

@@ -3,7 +3,6 @@ use Rattle.parts.specs.Kept.{pages_of}
 use native.Mathlib.Omega.{arith}
 use Prim.Native.Nat.{ℕ, ◌<◌, ◌≤◌}
 use mathlib.Core.Path.{◌≡◌}
-use borrow.Author.Rules.{rules}
 use Rattle.group.proofs.used.free_ones.Goals as goal
 use Rattle.group.proofs.used.free_ones.Goals.{Else-x-size}
 

@@ -4,7 +4,6 @@ use Rattle.parts.specs.Kept.{pages_of}
 use Rattle.model.specs.Needs.{actives}
 use lib.ListN.{take}
 use Rattle.model.specs.Store.{free_ones}
-use borrow.Author.Rules.{rules}
 use Rattle.group.proofs.used.usable.Goals as goal
 
 pub first_two-requires : goal.first_two-requires

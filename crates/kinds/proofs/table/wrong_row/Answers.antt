@@ -1,45 +1,34 @@
-use mathlib.Core.Bool.{Bool, true}
-use mathlib.Core.Path.{◌≡◌, refl, sym, ap, ◌∙◌}
-use Prim.Native.Nat.{◌+◌, ◌*◌, ◌/◌, ◌≤◌}
-use native.Mathlib.Omega.{arith}
-use lib.ListN.{length}
-use borrow.Author.Tests.{eq-eqb, ne_eqb, not-true, not-false}
+-- `wrong_row` meets its contract. Assumes nothing.
+use Rattle.std.proofs.Common.{◌*◌, ◌-◌, ◌/◌, length, arith, refl, sym, ◌∙◌}
 use borrow.Author.Rules.{rules}
-use Rattle.model.specs.Basic.{pick}
-use Rattle.model.specs.Kinds.{row_right, wrong_from, wrong_row}
+use native.Mathlib.Nat.{sub-zero}
+use Rattle.model.specs.Kinds.{wrong_row}
 use Rattle.kinds.proofs.laws.Laws.{row-key, wrong-here, wrong-on, wrong-end}
 use Rattle.kinds.proofs.table.wrong_row.Goals as goal
-use Rattle.kinds.proofs.table.wrong_row.Goals.{After-shared_slice_known-in-loop-left-1}
 
-pub loop-left-init : goal.loop-left-init
+pub loop-i-init : goal.loop-i-init
 unfolding wrong_row
-loop-left-init c = (omega arith, refl)
+loop-i-init c = rw (sub-zero (length c.args.table.now / 4)) refl
 
 pub returns-then-not-row_right : goal.returns-then-not-row_right
 returns-then-not-row_right c =
-    sym (wrong-here _ _ _ _ c.loop-left-test.true (sym c.row_right.ensures ∙ not-true _ c.if-not-row_right.true-raw))
-    ∙ c.loop-left.invariant.1
-
--- behind the test, the row is right
-right-row : (c : After-shared_slice_known-in-loop-left-1)
-    →
-    row_right c.args.table.now c.loop-left.at c.loop-left.least ≡ true
-right-row c = sym c.row_right.ensures ∙ not-false _ c.if-not-row_right.false-raw
+    sym (wrong-here _ _ _ _ (omega arith) (sym c.row_right.ensures ∙ c.if-not-row_right.true)) ∙ c.loop-i.invariant
 
 pub overflow_add-least : goal.overflow_add-least
 overflow_add-least c =
-    let l = c.loop-left in
-    omega (arith, row-key c.args.table.now l.at l.least (right-row (goal.at.overflow_add-least c).After-shared_slice_known-in-loop-left-1))
+    omega (arith, row-key c.args.table.now (4 * c.loop-i.i) c.loop-i.least (sym c.row_right.ensures ∙ c.if-not-row_right.false))
 
-pub loop-left-preserved : goal.loop-left-preserved
-loop-left-preserved c = (omega arith, wrong-on _ _ _ _ c.loop-left-test.true (right-row (goal.at.loop-left-preserved c).After-shared_slice_known-in-loop-left-1) ∙ c.loop-left.invariant.1)
+pub loop-i-preserved : goal.loop-i-preserved
+loop-i-preserved c =
+    wrong-on _ _ _ _ _ _ _ (omega arith) (omega arith) (omega arith) (sym c.row_right.ensures ∙ c.if-not-row_right.false)
+    ∙ c.loop-i.invariant
 
 pub returns-then-table-eq0 : goal.returns-then-table-eq0
 returns-then-table-eq0 c =
-    sym (wrong-end _ _ _ _ c.loop-left-test.false
-    ∙ ap (λ (b : Bool). pick b 0 (c.loop-left.at / 4 + 1)) (eq-eqb _ _ c.if-table-eq0.true)) ∙ c.loop-left.invariant.1
+    let t = c.args.table.now in let l = c.loop-i in
+    rw (← l.invariant, wrong-end (length t / 4 - l.i) t l.i l.least (omega arith)) (search rules)
 
-pub returns : goal.returns
-returns c =
-    sym (wrong-end _ _ _ _ c.loop-left-test.false ∙ ap (λ (b : Bool). pick b 0 (c.loop-left.at / 4 + 1)) (ne_eqb _ _ c.if-table-eq0.false))
-    ∙ c.loop-left.invariant.1
+pub returns-else-table-eq0 : goal.returns-else-table-eq0
+returns-else-table-eq0 c =
+    let t = c.args.table.now in let l = c.loop-i in
+    rw (← l.invariant, wrong-end (length t / 4 - l.i) t l.i l.least (omega arith)) (search rules)

@@ -1,8 +1,7 @@
 -- `holding::page_until` meets its contract: of the entries from i on the same are alive up to q. Assumes nothing.
-use Prim.Native.Nat.{ℕ, ◌≤◌, ◌+◌, ◌-◌}
+use Prim.Native.Nat.{ℕ, ◌+◌, ◌-◌}
 use native.Mathlib.Omega.{arith}
 use mathlib.Core.Path.{◌≡◌, subst}
-use borrow.Author.Rules.{rules}
 use Rattle.model.specs.Still.{Until}
 use Rattle.life.proofs.laws.Still.{alive_from, page-none, page-more}
 use Rattle.life.proofs.holding.page_until.Goals as goal
@@ -12,12 +11,6 @@ loop-i-init c = let a = c.args in (omega arith, page-none a.page.now a.n a.v a.r
 
 pub entry_at-e-requires : goal.entry_at-e-requires
 entry_at-e-requires c = let s = c.requires.0 in (omega (arith, s.long), s.short)
-
-pub sooner-requires : goal.sooner-requires
-sooner-requires c = c.loop-i.invariant.1.above
-
-pub sooner-q-requires : goal.sooner-q-requires
-sooner-q-requires c = c.sooner.ensures.above
 
 pub loop-i-preserved : goal.loop-i-preserved
 loop-i-preserved c =

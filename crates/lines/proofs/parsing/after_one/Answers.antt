@@ -1,21 +1,14 @@
 -- The words behind are the text's first and those behind it. Assumes nothing.
-use Rattle.std.proofs.Common.{ℕ, ◌≤◌, List, length, sym, arith, length-take-le}
+use Rattle.std.proofs.Common.{arith}
 use Rattle.lines.specs.Console.{spoken}
-use Rattle.lines.specs.Words.{until}
 use Rattle.lines.proofs.Cutting.{cut-found, one_word}
 use Rattle.lines.proofs.parsing.after_one.Goals as goal
 
-pub slice_bounds-after_two-end : goal.slice_bounds-after_two-end
-slice_bounds-after_two-end c = sym (length-take-le c.find-e.result c.args.rest.now (omega arith))
+pub returns-in-Some : goal.returns-in-Some
+returns-in-Some c =
+    let here = c.in-Some.ensures in
+    rw (cut-found 32 _ c.args.rest.now c.in-Some.e here.0 here.1) c.after_two.ensures
 
-pub returns-then-e-rest : goal.returns-then-e-rest
-returns-then-e-rest c =
-    let rest : List ℕ = c.args.rest.now in
-    rw (cut-found 32 _ rest c.find-e.result c.find-e.ensures (omega arith)) c.after_two.ensures
-
-pub returns : goal.returns
+pub returns-in-None : goal.returns-in-None
 unfolding spoken
-returns c =
-    let rest : List ℕ = c.args.rest.now in
-    let whole : length rest ≤ until 32 rest = omega (arith, c.find-e.ensures) in
-    rw (one_word 32 rest whole, c.with_one.ensures, c.number.ensures)
+returns-in-None c = rw (one_word 32 c.args.rest.now (omega (arith, c.in-None.ensures)), c.with_one.ensures) cc

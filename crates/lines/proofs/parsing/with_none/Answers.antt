@@ -1,25 +1,13 @@
 -- Each test tells whether the word is the one asked for. Assumes nothing.
-use Rattle.std.proofs.Common.{sym, ◌∙◌}
+use Rattle.lines.specs.Console.{ascii}
+use Rattle.lines.proofs.Numbers.{no_word}
 use Rattle.lines.proofs.parsing.with_none.Goals as goal
 
-pub returns-then-same : goal.returns-then-same
-returns-then-same c = rw (sym c.same.ensures ∙ c.if-same.true)
-
-pub returns-then-same-2 : goal.returns-then-same-2
-returns-then-same-2 c = rw (sym c.same.ensures ∙ c.if-same.false, sym c.same-2.ensures ∙ c.if-same-2.true)
-
-pub returns-then-same-3 : goal.returns-then-same-3
-returns-then-same-3 c =
+pub returns-else-eq-3 : goal.returns-else-eq-3
+returns-else-eq-3 c =
+    let w = c.args.w.now in
     rw (
-      sym c.same.ensures ∙ c.if-same.false,
-      sym c.same-2.ensures ∙ c.if-same-2.false,
-      sym c.same-3.ensures ∙ c.if-same-3.true,
-    )
-
-pub returns : goal.returns
-returns c =
-    rw (
-      sym c.same.ensures ∙ c.if-same.false,
-      sym c.same-2.ensures ∙ c.if-same-2.false,
-      sym c.same-3.ensures ∙ c.if-same-3.false,
+      no_word w (ascii "open") c.as_slice.ensures c.eq.ensures c.if-eq.false,
+      no_word w (ascii "commit") c.as_slice-else-eq.ensures c.eq-else-eq.ensures c.if-eq-2.false,
+      no_word w (ascii "abandon") c.as_slice-else-eq-2.ensures c.eq-else-eq-2.ensures c.if-eq-3.false,
     )

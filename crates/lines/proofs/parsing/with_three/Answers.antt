@@ -1,9 +1,14 @@
 -- Each test tells whether the word is the one asked for. Assumes nothing.
-use Rattle.std.proofs.Common.{sym, ◌∙◌}
+use Rattle.lines.specs.Console.{ascii}
+use Rattle.lines.proofs.Numbers.{no_word}
 use Rattle.lines.proofs.parsing.with_three.Goals as goal
 
-pub returns-then-same : goal.returns-then-same
-returns-then-same c = rw (c.in-Is.is, c.in-Is-b.is, c.in-Is-c.is, sym c.same.ensures ∙ c.if-same.true)
-
-pub returns : goal.returns
-returns c = rw (c.in-Is.is, c.in-Is-b.is, c.in-Is-c.is, sym c.same.ensures ∙ c.if-same.false)
+pub returns-in_default : goal.returns-in_default
+returns-in_default c =
+    let here = c.in-Some-Some-Some in
+    rw (
+      here.is-0,
+      here.is-1,
+      here.is-2,
+      no_word c.args.w.now (ascii "range") c.as_slice.ensures c.eq.ensures c.if-eq.false,
+    )

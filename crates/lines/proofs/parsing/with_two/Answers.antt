@@ -1,24 +1,14 @@
 -- Each test tells whether the word is the one asked for. Assumes nothing.
-use Rattle.std.proofs.Common.{sym, ◌∙◌}
+use Rattle.lines.specs.Console.{ascii}
+use Rattle.lines.proofs.Numbers.{no_word}
 use Rattle.lines.proofs.parsing.with_two.Goals as goal
 
-pub returns-then-same : goal.returns-then-same
-returns-then-same c = rw (c.in-Is.is, c.in-Is-b.is, sym c.same.ensures ∙ c.if-same.true)
-
-pub returns-then-same-2 : goal.returns-then-same-2
-returns-then-same-2 c =
+pub returns-else-eq-2 : goal.returns-else-eq-2
+returns-else-eq-2 c =
+    let w = c.args.w.now in
     rw (
-      c.in-Is.is,
-      c.in-Is-b.is,
-      sym c.same.ensures ∙ c.if-same.false,
-      sym c.same-2.ensures ∙ c.if-same-2.true,
-    )
-
-pub returns : goal.returns
-returns c =
-    rw (
-      c.in-Is.is,
-      c.in-Is-b.is,
-      sym c.same.ensures ∙ c.if-same.false,
-      sym c.same-2.ensures ∙ c.if-same-2.false,
+      c.in-Some-Some.is-0,
+      c.in-Some-Some.is-1,
+      no_word w (ascii "insert") c.as_slice.ensures c.eq.ensures c.if-eq.false,
+      no_word w (ascii "get") c.as_slice-else-eq.ensures c.eq-else-eq.ensures c.if-eq-2.false,
     )

@@ -1,19 +1,12 @@
--- The bytes before `i` are no marks, so what is left of the text has its first mark that much sooner. Assumes nothing.
-use Rattle.std.proofs.Common.{arith}
-use Rattle.lines.proofs.Cutting.{until-hit, until-miss, until_end}
+-- The place that the search gives is that of the first mark. Assumes nothing.
+use Rattle.std.proofs.Common.{eqb, rules, tests}
+use Rattle.std.proofs.lemmas.Iterator.{YieldsList-from_slice}
+use Rattle.std.proofs.lemmas.Iterator.Search.{position_from_yields_List}
+use Rattle.lines.proofs.Cutting.{found}
 use Rattle.lines.proofs.word.find.Goals as goal
-
-pub returns-then-s-i : goal.returns-then-s-i
-returns-then-s-i c =
-    let l = c.loop-i in
-    omega (arith, until-hit c.args.mark c.args.s.now l.i (omega arith) c.if-s-i.true)
-
-pub loop-i-preserved : goal.loop-i-preserved
-loop-i-preserved c =
-    let l = c.loop-i in
-    omega (arith, until-miss c.args.mark c.args.s.now l.i (omega arith) c.if-s-i.false)
 
 pub returns : goal.returns
 returns c =
-    let l = c.loop-i in
-    omega (arith, until_end c.args.mark c.args.s.now l.i (omega arith))
+    found c.args.mark c.args.s.now c.position.result
+    (position_from_yields_List (λ b. eqb b c.args.mark) _ _ c.position.result c.position.ensures.ran
+    (YieldsList-from_slice c.args.s.now c.iter.ensures.rest) (λ x b q k. search (rules, tests)))

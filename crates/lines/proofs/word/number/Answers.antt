@@ -1,61 +1,48 @@
--- The bytes before `i` are digits and `n` is their number, so the rest of the word decides. Assumes nothing.
-use Rattle.std.proofs.Common.{◌≡◌, ℕ, ◌-◌, ◌<◌, List, get_or, sym, refl, ap, ◌∙◌, arith}
+-- The bytes before this one are digits and `n` is their number, so the rest of the word decides. Assumes nothing.
+use Rattle.std.proofs.Common.{◌≡◌, ℕ, List, get_or, sym, refl, ◌∙◌, arith, inl, inr, eqb-true, length}
 use Rattle.lines.specs.Console.{value_from}
-use Rattle.lines.specs.declared.Number.TheVariants.{Is}
-use Rattle.lines.proofs.Numbers.{grows, ten-digits, value-step, value-end, digits-on, digits-below, digits_above, digits-end}
-use Rattle.lines.proofs.Numbers.{too_short, too_long, no-digits, too_large, is_number}
+use Rattle.lines.proofs.Numbers.{grows, ten-digits, value-step, value-end, digits-on, digits-off, digits-end}
+use Rattle.lines.proofs.Numbers.{too_short, too_long, not_empty, digit_value-le, fits_or_none, no-digits}
 use Rattle.lines.proofs.word.number.Goals as goal
 
-pub returns-then-word-eq0 : goal.returns-then-word-eq0
-returns-then-word-eq0 c = sym (too_short c.args.word.now c.if-word-eq0.true)
-
-pub returns-then-word-gt10 : goal.returns-then-word-gt10
-returns-then-word-gt10 c = sym (too_long c.args.word.now c.if-word-gt10.true)
-
-pub loop-i-init : goal.loop-i-init
-loop-i-init c = (omega arith, omega arith, refl, refl)
-
-pub returns-then-b-lt48 : goal.returns-then-b-lt48
-returns-then-b-lt48 c =
+pub returns-then-is_empty : goal.returns-then-is_empty
+returns-then-is_empty c =
     let w : List ℕ = c.args.word.now in
-    let l = c.loop-i in
-    let low : get_or w l.i 0 < 48 = omega (arith, c.wide-b.ensures) in
-    sym (no-digits w (omega arith) (omega arith) (sym l.invariant.2 ∙ digits-below w l.i (omega arith) low))
+    sym (elim c.then-is_empty.either [
+      | inl none ↦ too_short w (eqb-true (length w) 0 (sym c.is_empty.ensures ∙ none))
+      | inr long ↦ too_long w long.1
+    ])
 
-pub returns-then-b-gt57 : goal.returns-then-b-gt57
-returns-then-b-gt57 c =
+pub loop-b-init : goal.loop-b-init
+loop-b-init c = record { small = omega arith; digits = refl; value = refl }
+
+pub returns-then-not-is_ascii_digit : goal.returns-then-not-is_ascii_digit
+returns-then-not-is_ascii_digit c =
     let w : List ℕ = c.args.word.now in
-    let l = c.loop-i in
-    let high : 57 < get_or w l.i 0 = omega (arith, c.wide-b.ensures) in
-    sym (no-digits w (omega arith) (omega arith) (sym l.invariant.2 ∙ digits_above w l.i (omega arith) high))
+    let l = c.loop-b in
+    let other = digits-off w l.b-index c.loop-b-test.true (sym c.if-not-is_ascii_digit.ensures.value) in
+    sym (no-digits w (omega arith) (omega arith) (sym l.invariant.digits ∙ other))
 
 pub overflow_mul-n : goal.overflow_mul-n
-overflow_mul-n c = omega (arith, ten-digits c.loop-i.n c.loop-i.i (omega arith) c.loop-i.invariant.1)
+overflow_mul-n c = omega (arith, ten-digits c.loop-b.n c.loop-b.b-index (omega arith) c.loop-b.invariant.small)
 
 pub overflow_add-n : goal.overflow_add-n
-overflow_add-n c = omega (arith, ten-digits c.loop-i.n c.loop-i.i (omega arith) c.loop-i.invariant.1)
+overflow_add-n c = omega (arith, ten-digits c.loop-b.n c.loop-b.b-index (omega arith) c.loop-b.invariant.small)
 
-pub loop-i-preserved : goal.loop-i-preserved
-loop-i-preserved c =
+pub loop-b-preserved : goal.loop-b-preserved
+loop-b-preserved c =
     let w : List ℕ = c.args.word.now in
-    let l = c.loop-i in
-    let e : c.wide-b.result ≡ get_or w l.i 0 = c.wide-b.ensures in (
-      omega arith,
-      grows l.n l.i (c.wide-b.result - 48) l.invariant.1 (omega arith),
-      digits-on w l.i (omega arith) (omega arith) (omega arith) ∙ l.invariant.2,
-      rw e (sym (value-step l.n w l.i (omega arith)) ∙ l.invariant.3),
-    )
-
-pub returns-then-n-le4294967295 : goal.returns-then-n-le4294967295
-returns-then-n-le4294967295 c =
-    let w : List ℕ = c.args.word.now in
-    let l = c.loop-i in
-    let v : value_from 0 w ≡ l.n = sym l.invariant.3 ∙ value-end l.n w l.i (omega arith) in
-    sym (is_number w (omega arith) (omega arith) (sym l.invariant.2 ∙ digits-end w l.i (omega arith)) (omega arith) ∙ ap Is v)
+    let l = c.loop-b in
+    record {
+      small = grows l.n l.b-index c.from.result l.invariant.small (rw c.from.ensures (digit_value-le (get_or w l.b-index 0) (sym c.if-not-is_ascii_digit.ensures.value)));
+      digits = digits-on w l.b-index c.loop-b-test.true (sym c.if-not-is_ascii_digit.ensures.value) ∙ l.invariant.digits;
+      value = rw c.from.ensures (sym (value-step l.n w l.b-index c.loop-b-test.true) ∙ l.invariant.value);
+    }
 
 pub returns : goal.returns
 returns c =
     let w : List ℕ = c.args.word.now in
-    let l = c.loop-i in
-    let v : value_from 0 w ≡ l.n = sym l.invariant.3 ∙ value-end l.n w l.i (omega arith) in
-    sym (too_large w (omega arith) (omega arith) (sym l.invariant.2 ∙ digits-end w l.i (omega arith)) (omega arith))
+    let l = c.loop-b in
+    let v : value_from 0 w ≡ l.n = sym l.invariant.value ∙ value-end l.n w l.b-index c.loop-b-test.false in
+    let d = sym l.invariant.digits ∙ digits-end w l.b-index c.loop-b-test.false in
+    c.ok.ensures.value ∙ fits_or_none w (not_empty (length w) c.if-is_empty.ensures) c.if-word-gt10.false l.n c.try_from.result d v c.try_from.ensures

@@ -1,10 +1,7 @@
 -- `local::pages::zero_from` meets its contract: what is left to test answers as the whole. Assumes nothing.
-use Prim.Native.Nat.{ℕ, ◌≤◌, ◌-◌}
-use mathlib.Core.Path.{◌≡◌, refl, ap, sym, ◌∙◌}
-use native.Mathlib.Omega.{arith}
-use lib.Dec.{eqb}
+use Prim.Native.Nat.{◌≤◌, ◌-◌}
+use mathlib.Core.Path.{◌≡◌}
 use Rattle.model.specs.Clean.{zero_from}
-use Rattle.local.proofs.laws.Pages.{zero_more, zero-not}
 use Rattle.local.proofs.pages.zero_from.Given as goal
 
 abbrev pub invariant-loop-k : goal.invariant-loop-k

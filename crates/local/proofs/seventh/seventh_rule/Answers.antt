@@ -1,22 +1,14 @@
--- `local::seventh::seventh_rule` meets its contract: with an update open, every page. Assumes nothing.
-use mathlib.Core.Path.{sym, ◌∙◌}
-use borrow.Author.Tests.{not-true, not-false}
+-- `local::seventh::seventh_rule` meets its contract: no update is open, or each page is tested. Assumes nothing.
+use mathlib.Core.Path.{refl}
 use borrow.Author.Rules.{rules}
-use Rattle.store.proofs.laws.Read.{current-lt}
-use Rattle.local.proofs.laws.Seventh.{seven-shut, seven-open}
+use Rattle.model.specs.Store.{last_of}
+use Rattle.local.proofs.laws.Seventh.{seven-is}
 use Rattle.local.proofs.seventh.seventh_rule.Goals as goal
 
 pub returns-then-not-h : goal.returns-then-not-h
 returns-then-not-h c =
-    let a = c.args in
-    sym (seven-shut a.l.least a.s.now a.h c.requires.1.header (not-true a.h.opened c.if-not-h.true))
+    let a = c.args in rw (seven-is a.l.least a.s.now a.h c.requires.header (last_of a.h.opened a.h.current) refl) (search rules)
 
-pub last-last-requires : goal.last-last-requires
-last-last-requires c = rw c.requires.1.header (current-lt c.args.l.least c.args.s.now)
-
-pub returns : goal.returns
-returns c =
-    let a = c.args in
-    c.pages_young.ensures
-    ∙ sym (seven-open a.l.least a.s.now a.h c.requires.1.header c.last-last.result
-    (not-false a.h.opened c.if-not-h.false) c.last-last.ensures)
+pub returns-else-not-h : goal.returns-else-not-h
+returns-else-not-h c =
+    let a = c.args in rw (seven-is a.l.least a.s.now a.h c.requires.header c.last.result c.last.ensures) (search rules)

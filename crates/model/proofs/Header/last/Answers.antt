@@ -2,7 +2,6 @@ use mathlib.Core.Bool.{Bool}
 use Rattle.model.specs.Store.{last_of}
 use native.Mathlib.Numerals.{add-one}
 use mathlib.Core.Path.{ap, sym, ◌∙◌}
-use borrow.Author.Rules.{rules}
 use Rattle.model.proofs.Header.last.Goals as goal
 
 pub returns-then-self : goal.returns-then-self

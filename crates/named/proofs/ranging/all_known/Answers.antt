@@ -1,9 +1,12 @@
 use Prim.Native.Nat.{◌+◌, ◌-◌, ◌≤◌, ◌<◌}
 use native.Mathlib.Omega.{arith}
 use mathlib.Core.List.{List}
-use mathlib.Core.Path.{◌≡◌, ap, sym, subst, ◌∙◌}
-use borrow.Author.Tests.{eq-eqb, ne_eqb}
-use borrow.Author.Rules.{rules}
+use mathlib.Core.Path.{◌≡◌, refl, ap, sym, subst, ◌∙◌}
+use Rattle.std.specs.Prelude.{Option, Some, None}
+use Rattle.std.specs.Option.{is_some}
+use mathlib.Core.Bool.{Bool, true, false, not, true≢false}
+use lib.Dec.{eqb}
+use Rattle.model.specs.declared.Kind.{Kind}
 use Rattle.model.specs.declared.Pair.{Pair}
 use Rattle.model.specs.Kinds.{unknown, known_in}
 use Rattle.model.specs.Walk.{settings, between, range_of, key_limit}
@@ -28,17 +31,25 @@ returns-then-high-x c =
     let h = subst (λ (x : Pair). a.high < x.key) e c.if-high-x.true in
     sym (known-none a.table.now k a.high us (reads-rising q.0) h) ∙ c.loop-key.invariant
 
-pub returns-then-unknown-ne0 : goal.returns-then-unknown-ne0
-returns-then-unknown-ne0 c =
+-- of a key that the layer does not know
+none-unknown : (o : Option Kind) (r : Bool) → is_some o ≡ not r → r ≡ true → eqb (unknown o) 0 ≡ false
+none-unknown None r m e = refl
+none-unknown (Some k) r m e = absurd (true≢false (m ∙ ap not e))
+
+some-known : (o : Option Kind) (r : Bool) → is_some o ≡ not r → r ≡ false → eqb (unknown o) 0 ≡ true
+some-known None r m e = absurd (true≢false (sym (m ∙ ap not e)))
+some-known (Some k) r m e = refl
+
+pub returns-then-is_none : goal.returns-then-is_none
+returns-then-is_none c =
     let a = c.args in
     let q = c.requires in
     let k = c.loop-key.key in
     let us : List Pair = settings (decode a.l.least a.s.now) a.v in
     let e = c.first_from-x.ensures in
     let h = subst (λ (x : Pair). x.key ≤ a.high) e c.if-high-x.false in
-    let m = c.unknown.ensures ∙ ap unknown c.kind_of.ensures
-    ∙ ap (λ (x : Pair). unknown (known_in a.table.now x.key)) e in
-    sym (known-not a.table.now k a.high us (reads-rising q.0) q.2 h (ne_eqb _ 0 (λ z. c.if-unknown-ne0.true (m ∙ z))))
+    let m = sym (ap is_some c.kind_of.ensures ∙ ap (λ (x : Pair). is_some (known_in a.table.now x.key)) e) ∙ c.is_none.ensures in
+    sym (known-not a.table.now k a.high us (reads-rising q.0) q.2 h (none-unknown _ _ m c.if-is_none.true))
     ∙ c.loop-key.invariant
 
 pub loop-key-smaller : goal.loop-key-smaller
@@ -60,10 +71,9 @@ loop-key-preserved c =
     let us : List Pair = settings (decode a.l.least a.s.now) a.v in
     let e = c.first_from-x.ensures in
     let h = subst (λ (x : Pair). x.key ≤ a.high) e c.if-high-x.false in
-    let m = c.unknown.ensures ∙ ap unknown c.kind_of.ensures
-    ∙ ap (λ (x : Pair). unknown (known_in a.table.now x.key)) e in
+    let m = sym (ap is_some c.kind_of.ensures ∙ ap (λ (x : Pair). is_some (known_in a.table.now x.key)) e) ∙ c.is_none.ensures in
     ap (λ (x : Pair). all_known a.table.now (between (x.key + 1) a.high us)) e
-    ∙ known_on a.table.now k a.high us (reads-rising q.0) q.2 h (eq-eqb _ 0 (sym m ∙ c.if-unknown-ne0.false))
+    ∙ known_on a.table.now k a.high us (reads-rising q.0) q.2 h (some-known _ _ m c.if-is_none.false)
     ∙ c.loop-key.invariant
 
 pub returns : goal.returns

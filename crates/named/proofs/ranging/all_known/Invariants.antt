@@ -1,16 +1,8 @@
-use Prim.Native.Nat.{◌+◌, ◌-◌, ◌≤◌, ◌<◌}
-use native.Mathlib.Omega.{arith}
-use mathlib.Core.List.{List}
-use mathlib.Core.Path.{◌≡◌, ap, sym, subst, ◌∙◌}
-use borrow.Author.Tests.{eq-eqb, ne_eqb}
-use borrow.Author.Rules.{rules}
-use Rattle.model.specs.declared.Pair.{Pair}
-use Rattle.model.specs.Kinds.{unknown, known_in}
+use Prim.Native.Nat.{◌-◌}
+use mathlib.Core.Path.{◌≡◌}
 use Rattle.model.specs.Walk.{settings, between, range_of, key_limit}
 use Rattle.model.specs.Layout.{decode}
 use Rattle.model.specs.Named.{all_known}
-use Rattle.differ.proofs.laws.Listing.{reads-rising}
-use Rattle.named.proofs.laws.Onward.{range-between, leads-low, known-none, known-not, known_on, known_over}
 use Rattle.named.proofs.ranging.all_known.Given as goal
 
 abbrev pub invariant-loop-key : goal.invariant-loop-key

@@ -1,10 +1,10 @@
 -- `bounded::listed_by` meets its contract. Assumes nothing.
-use Prim.Native.Nat.{ℕ, pred, ◌+◌, ◌*◌, ◌-◌, ◌≤◌}
+use Rattle.model.proofs.Edition.{edition}
+use Prim.Native.Nat.{ℕ, pred, ◌*◌, ◌≤◌}
 use native.Mathlib.Omega.{arith}
 use mathlib.Core.Path.{◌≡◌, ap, sym, ◌∙◌}
 use mathlib.Core.List.{List, ◌++◌}
 use lib.ListN.{length, drop}
-use borrow.Author.Rules.{rules}
 use Rattle.model.specs.Near.{range_right}
 use Rattle.model.specs.Lent.{Listed}
 use Rattle.model.specs.Walk.{range_below}
@@ -18,27 +18,21 @@ use Rattle.tabled.proofs.laws.Table.{found_some, found-zero}
 use Rattle.tabled.proofs.laws.Bound.{right-few}
 use Rattle.near.proofs.bounded.listed_by.Goals as goal
 
-pub down-w-requires : goal.down-w-requires
-down-w-requires c = (c.requires.0, c.requires.1, c.requires.2, c.requires.3, c.requires.4, c.requires.5)
-
-pub returns-then-w-eq0 : goal.returns-then-w-eq0
-returns-then-w-eq0 c =
+pub returns-in_default : goal.returns-in_default
+returns-in_default c =
     let a = c.args in
     answered-wrong a.list.now (range_right a.l.least a.s.now a.q.version (pred a.level) a.q.high a.q.low a.n)
     (range_below (pred a.level) (decode a.l.least a.s.now).pages a.q.version a.q.low a.q.high a.q.low a.n)
     (found-zero a.l.least a.s.now a.q.version a.q.low a.q.high (pred a.level) a.q.low a.n
-    c.down-w.result c.down-w.ensures c.if-w-eq0.true)
-
-pub overflow_sub-found : goal.overflow_sub-found
-overflow_sub-found c = omega (arith, c.if-w-eq0.false)
+    c.down.result c.down.ensures (omega (arith, c.in_default.ensures)))
 
 pub overflow_mul-found : goal.overflow_mul-found
 overflow_mul-found c =
     let a = c.args in
     omega (
       arith,
-      c.down-w.ensures,
-      found-most a.l.least a.s.now c.requires.0.eight a.q.version a.q.low
+      c.down.ensures,
+      found-most a.l.least a.s.now (edition c.args.l).eight a.q.version a.q.low
           a.q.high (pred a.level) a.q.low a.n,
     )
 
@@ -50,8 +44,8 @@ returns-then-list-found c =
     let xs = range_below (pred a.level) (decode a.l.least a.s.now).pages a.q.version a.q.low a.q.high a.q.low
     a.n in
     let t = found_some a.l.least a.s.now a.q.version a.q.low a.q.high (pred a.level) a.q.low a.n
-    c.down-w.result c.down-w.ensures c.if-w-eq0.false in
-    let e : c.down-w.result - 1 ≡ length xs = omega (arith, t.1) in
+    c.down.result c.down.ensures (λ z. omega (arith, z, c.in-Some.ensures.0)) in
+    let e : c.in-Some.found ≡ length xs = omega (arith, t.1, c.in-Some.ensures.1) in
     let f : ℕ → Listed = λ k. record { number = 14; count = k; list = ns } in
     ap f e ∙ sym (counted-short ns xs (omega (arith, e, c.if-list-found.true))) ∙ answered-right ns x xs t.0
 
@@ -59,14 +53,14 @@ pub write_by-requires : goal.write_by-requires
 write_by-requires c =
     let a = c.args in
     let t = found_some a.l.least a.s.now a.q.version a.q.low a.q.high (pred a.level) a.q.low a.n
-    c.down-w.result c.down-w.ensures c.if-w-eq0.false in
-    let few = right-few a.l.least a.s.now c.requires.0.eight (pred a.level) a.q.version a.q.low a.q.high
+    c.down.result c.down.ensures (λ z. omega (arith, z, c.in-Some.ensures.0)) in
+    let few = right-few a.l.least a.s.now (edition c.args.l).eight (pred a.level) a.q.version a.q.low a.q.high
     a.q.low a.n t.0 in (
-      record { edition = c.requires.0; sized = rw c.requires.1.sized.is c.requires.1.sized; few = c.requires.2 },
-      c.requires.3,
+      record { edition = (edition c.args.l); sized = rw c.requires.0.sized.is c.requires.0.sized; few = c.requires.1 },
+      c.requires.2,
       t.0,
-      record { few = omega (arith, few); room = λ e. omega (arith, t.1, c.if-list-found.false) },
-      c.requires.5,
+      record { few = omega (arith, few); room = λ e. omega (arith, t.1, c.in-Some.ensures.1, c.if-list-found.false) },
+      c.requires.4,
     )
 
 pub returns : goal.returns
@@ -77,10 +71,10 @@ returns c =
     let xs = range_below (pred a.level) (decode a.l.least a.s.now).pages a.q.version a.q.low a.q.high a.q.low
     a.n in
     let t = found_some a.l.least a.s.now a.q.version a.q.low a.q.high (pred a.level) a.q.low a.n
-    c.down-w.result c.down-w.ensures c.if-w-eq0.false in
-    let e : c.down-w.result - 1 ≡ length xs = omega (arith, t.1) in
+    c.down.result c.down.ensures (λ z. omega (arith, z, c.in-Some.ensures.0)) in
+    let e : c.in-Some.found ≡ length xs = omega (arith, t.1, c.in-Some.ensures.1) in
     let room : 2 * length xs ≤ length ns = omega (arith, e, c.if-list-found.false) in
     let g = c.write_by.ensures ∙ written_all ns xs room in
     let f : ℕ → List ℕ → Listed = λ k ys. record { number = 0; count = k; list = ys } in
-    ap (f (c.down-w.result - 1)) g ∙ ap (λ (k : ℕ). f k (numbers xs ++ drop (length (numbers xs)) ns)) e
+    ap (f c.in-Some.found) g ∙ ap (λ (k : ℕ). f k (numbers xs ++ drop (length (numbers xs)) ns)) e
     ∙ sym (counted-all ns xs room) ∙ answered-right ns x xs t.0

@@ -1,10 +1,9 @@
 -- `bounded::write_by` meets its contract. Assumes nothing.
-use Prim.Native.Nat.{ℕ, pred, ◌+◌, ◌*◌, ◌-◌}
+use Prim.Native.Nat.{ℕ, ◌+◌, ◌*◌, ◌-◌}
 use native.Mathlib.Numerals.{sub-one}
 use native.Mathlib.Omega.{arith}
 use mathlib.Core.Path.{◌≡◌, ap, sym, ◌∙◌, subst}
 use mathlib.Core.Bool.{true}
-use borrow.Author.Rules.{rules}
 use Rattle.model.specs.Near.{range_right}
 use Rattle.model.specs.Walk.{range_below}
 use Rattle.model.specs.Layout.{decode}
@@ -13,13 +12,13 @@ use Rattle.tabled.specs.Cells.{Table}
 use Rattle.near.proofs.bounded.write_by.Goals as goal
 
 pub overflow_sub-up : goal.overflow_sub-up
-overflow_sub-up c = omega (arith, c.wide-up.ensures, c.requires.1)
+overflow_sub-up c = omega (arith, c.requires.1)
 
 pub gather_by-requires : goal.gather_by-requires
 gather_by-requires c =
     let a = c.args in
-    let u = sub-one c.wide-up.result ∙ ap pred c.wide-up.ensures in
-    let w : (a.level + 1) * 4096 ≡ (c.wide-up.result - 1 + 2) * 4096 = omega (arith, c.wide-up.ensures, c.requires.1) in (
+    let u = sub-one a.level in
+    let w : (a.level + 1) * 4096 ≡ (a.level - 1 + 2) * 4096 = omega (arith, c.requires.1) in (
       c.requires.0,
       subst (λ (m : ℕ). range_right a.l.least a.s.now a.q.version m a.q.high a.q.low a.n ≡ true) (sym u)
           c.requires.2,
@@ -32,7 +31,7 @@ gather_by-requires c =
 pub returns : goal.returns
 returns c =
     let a = c.args in
-    let u = sub-one c.wide-up.result ∙ ap pred c.wide-up.ensures in
+    let u = sub-one a.level in
     c.gather_by.ensures.list
     ∙ ap (λ (m : ℕ). written true a.list.now 0
     (range_below m (decode a.l.least a.s.now).pages a.q.version a.q.low a.q.high a.q.low a.n)) u

@@ -1,19 +1,11 @@
-use Prim.Native.Nat.{◌≤◌, ◌-◌, ◌+◌}
-use mathlib.Core.Path.{◌≡◌, refl, ap, sym, ◌∙◌}
-use Rattle.model.specs.declared.Header.{Header}
-use mathlib.Core.Bool.{Bool, ◌&&◌}
-use native.Mathlib.Omega.{arith}
-use borrow.Author.Tests.{not-true, not-false}
-use Rattle.model.specs.Basic.{all, count, pick}
+use Prim.Native.Nat.{◌≤◌, ◌-◌}
+use mathlib.Core.Path.{◌≡◌}
+use mathlib.Core.Bool.{◌&&◌}
+use Rattle.model.specs.Basic.{all, count}
 use Rattle.model.specs.Layout.{decode}
 use Rattle.model.specs.Sound.{versions}
-use Rattle.store.proofs.laws.Read.{current-lt}
 use Rattle.notes.specs.Kept.{Kept}
-use Rattle.notes.proofs.laws.Kept.{height-here}
-use Rattle.notes.proofs.laws.Ready.{root-quiet, versions-upto}
 use Rattle.notes.proofs.laws.Versions.{keys_at, full_at}
-use Rattle.notes.proofs.laws.Over.{keys-slot, full-slot, told-four, told-end}
-use borrow.Author.Rules.{rules}
 use Rattle.notes.proofs.pass.over_slots.Given as goal
 
 abbrev pub invariant-loop-v : goal.invariant-loop-v

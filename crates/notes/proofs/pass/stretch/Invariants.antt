@@ -1,16 +1,10 @@
-use Prim.Native.Nat.{◌≤◌, ◌<◌, ◌-◌}
-use mathlib.Core.Path.{◌≡◌, refl, ap, sym, ◌∙◌}
-use mathlib.Core.Bool.{Bool, ◌&&◌}
-use native.Mathlib.Omega.{arith}
-use borrow.Author.Tests.{not-true, not-false}
+use Prim.Native.Nat.{◌≤◌, ◌-◌}
+use mathlib.Core.Path.{◌≡◌}
+use mathlib.Core.Bool.{◌&&◌}
 use Rattle.model.specs.Basic.{all, count}
 use Rattle.model.specs.Layout.{decode}
 use Rattle.notes.specs.Kept.{Kept}
-use Rattle.notes.proofs.laws.Kept.{kept-later}
 use Rattle.notes.specs.Pass.{keys_on, full_on}
-use Rattle.notes.proofs.laws.Pass.{until-later}
-use Rattle.notes.proofs.laws.Over.{over-broken, over-whole, keys-next, full-next}
-use borrow.Author.Rules.{rules}
 use Rattle.notes.proofs.pass.stretch.Given as goal
 
 abbrev pub invariant-loop-v : goal.invariant-loop-v

@@ -15,9 +15,6 @@ decreases-visit l = 2 * l.up + 1
 
 abbrev pub invariant-visit-loop-i : goal.invariant-visit-loop-i
 invariant-visit-loop-i l =
-    (l.i ≤ l.count) × (l.x.keys ≡ true) × (l.x.live ≤ l.i) × Kept l.l.least (decode l.l.least l.s).pages l.v l.notes
+    (l.x.keys ≡ true) × (l.x.live ≤ l.i) × Kept l.l.least (decode l.l.least l.s).pages l.v l.notes
     × (note_at l.l.least l.up (decode l.l.least l.s).pages l.v l.n
-    ≡ row l.l.least l.up l.v (kids_at l.l.least l.up (decode l.l.least l.s).pages l.v) l.x (read_entries l.p (128 + 96 * l.i) (l.count - l.i)))
-
-abbrev pub decreases-visit-loop-i : goal.decreases-visit-loop-i
-decreases-visit-loop-i l = l.count - l.i
+    ≡ row l.l.least l.up l.v (kids_at l.l.least l.up (decode l.l.least l.s).pages l.v) l.x (read_entries l.p (128 + 96 * l.i) (l.i-end - l.i)))

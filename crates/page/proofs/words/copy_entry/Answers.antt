@@ -4,7 +4,6 @@ use mathlib.Core.Path.{◌∙◌}
 use native.Mathlib.Omega.{arith}
 use Rattle.bits.proofs.laws.Laws.{field-bytes}
 use Rattle.page.proofs.laws.Whole.{copy-lay}
-use borrow.Author.Rules.{rules}
 use Rattle.page.proofs.words.copy_entry.Goals as goal
 
 pub returns : goal.returns

@@ -9,9 +9,9 @@ use Rattle.page.proofs.laws.Whole.{copy-own}
 use borrow.Author.Rules.{rules}
 use Rattle.page.proofs.words.move_entry.Goals as goal
 
-pub returns-then-i-j : goal.returns-then-i-j
-returns-then-i-j c =
+pub returns-else-i-j : goal.returns-else-i-j
+returns-else-i-j c =
     let a = c.args in
     let p : List ℕ = a.page.now in
-    sym (ap (λ (n : ℕ). lay p (128 + 96 * n) (entry_parts (read_entry p (128 + 96 * a.i)))) (sym c.if-i-j.true)
-    ∙ copy-own p (128 + 96 * a.i) (λ k. omega (arith, c.slice_known-1.given k)) (omega (arith, c.requires.0)))
+    sym (ap (λ (n : ℕ). lay p (128 + 96 * n) (entry_parts (read_entry p (128 + 96 * a.i)))) (sym c.if-i-j.false)
+    ∙ copy-own p (128 + 96 * a.i) (search rules) (omega (arith, c.requires.0)))

@@ -4,7 +4,6 @@ use mathlib.Core.Path.{◌∙◌}
 use native.Mathlib.Omega.{arith}
 use Rattle.model.specs.Layout.{read_entry}
 use Rattle.bits.proofs.laws.Laws.{field-bytes}
-use borrow.Author.Rules.{rules}
 use Rattle.page.proofs.words.value_in.Goals as goal
 
 pub returns : goal.returns

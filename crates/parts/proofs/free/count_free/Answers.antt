@@ -1,36 +1,23 @@
-use Rattle.parts.specs.Free.{free_past}
-use Rattle.parts.proofs.laws.Free.{free_all}
-use Rattle.parts.specs.Kept.{pages_of}
-use lib.ListN.{length}
+-- `parts::count_free` meets its contract: those counted and the free pages from page i on are all. Assumes nothing.
+use mathlib.Core.Path.{◌≡◌, ◌∙◌, ap}
 use native.Mathlib.Omega.{arith}
-use mathlib.Core.Path.{◌≡◌, ◌∙◌, sym, ap}
-use Prim.Native.Nat.{suc, ◌+◌, ◌-◌, ◌≤◌, ◌<◌}
-use borrow.Author.Rules.{rules}
+use lib.Dec.{eqb}
+use lib.ListN.{length}
+use Rattle.std.specs.Int.{from_bool}
+use Rattle.model.specs.Store.{page}
+use Rattle.parts.specs.Kept.{pages_of}
+use Rattle.gather.proofs.laws.Kept.{one-most}
+use Rattle.parts.proofs.laws.Free.{free_all, free-step, free-none}
 use Rattle.parts.proofs.free.count_free.Goals as goal
-
-pub first_free-i-requires : goal.first_free-i-requires
-first_free-i-requires c = (c.requires.0, omega arith, omega (arith, c.requires.1, c.requires.0.holds.five), c.requires.1)
-
-pub loop-i-init : goal.loop-i-init
-loop-i-init c =
-    let f = c.first_free-i.ensures in
-    (f.low, f.high, f.low, (λ h. omega (arith, ap length (f.some h)), λ h. ap length (f.none h)))
-
-pub first_free-i-requires-in-loop-i : goal.first_free-i-requires-in-loop-i
-first_free-i-requires-in-loop-i c = (c.requires.0, omega (arith, c.loop-i.invariant.0), omega arith, c.requires.1)
-
-pub loop-i-smaller : goal.loop-i-smaller
-loop-i-smaller c = omega (arith, c.first_free-i-in-loop-i.ensures.low)
 
 pub loop-i-preserved : goal.loop-i-preserved
 loop-i-preserved c =
-    let f = c.first_free-i-in-loop-i.ensures in
-    let e = c.loop-i.invariant.3.0 c.loop-i-test.true in (
-      omega (arith, f.low),
-      f.high,
-      omega (arith, f.low, c.loop-i.invariant.2),
-      (λ h. e ∙ omega (arith, ap length (f.some h)), λ h. e ∙ omega (arith, ap length (f.none h))),
-    )
+    let ps = pages_of c.args.l c.args.s.now in
+    let b = eqb (page ps c.loop-i.i).level 0 in
+    let n : c.from-n.result ≡ from_bool b = c.from-n.ensures ∙ rw c.level_of.ensures in
+    (omega (arith, n, one-most b), omega (arith, c.loop-i.invariant.1, n, free-step ps c.loop-i.i (omega arith)))
 
 pub returns : goal.returns
-returns c = sym (ap length (free_all (pages_of c.args.l c.args.s.now)) ∙ c.loop-i.invariant.3.1 (omega arith))
+returns c =
+    let ps = pages_of c.args.l c.args.s.now in
+    omega (arith, c.loop-i.invariant.1, ap length (free_all ps), ap length (free-none ps c.loop-i.i (omega arith)))

@@ -4,7 +4,6 @@ use Rattle.store.proofs.laws.Read.{size_is}
 use lib.ListN.{length}
 use mathlib.Core.Path.{◌∙◌}
 use native.Mathlib.Omega.{arith}
-use borrow.Author.Rules.{rules}
 use Rattle.parts.proofs.free.size_of.Goals as goal
 
 pub returns : goal.returns

@@ -1,6 +1,6 @@
 use Rattle.parts.proofs.laws.Becomes.{lent}
 use Rattle.parts.specs.Kept.{pages_of}
-use Rattle.parts.proofs.laws.Kept.{part_in, short, exact, shown, valid}
+use Rattle.parts.proofs.laws.Kept.{part_in, exact, shown, valid}
 use Rattle.edit.proofs.laws.Left.{valid-changed}
 use Rattle.edit.specs.Change.{change_of}
 use Rattle.store.proofs.laws.Parts.{part-page}
@@ -9,21 +9,7 @@ use Rattle.model.specs.Store.{page}
 use Rattle.model.specs.Page.{changed}
 use native.Mathlib.Omega.{arith}
 use mathlib.Core.Path.{◌∙◌}
-use borrow.Author.Rules.{rules}
 use Rattle.parts.proofs.writers.change_in.Goals as goal
-
-pub offset-a-requires : goal.offset-a-requires
-offset-a-requires c = (c.requires.0.edition, omega (arith, part_in c.requires.0 c.requires.1, short c.requires.0))
-
-pub overflow_add-a : goal.overflow_add-a
-overflow_add-a c =
-    omega (
-      arith,
-      part_in c.requires.0 c.requires.1,
-      short c.requires.0,
-      bytes-is c.requires.0.edition,
-      c.offset-a.ensures,
-    )
 
 pub slice_bounds-take_change-end : goal.slice_bounds-take_change-end
 slice_bounds-take_change-end c = omega (arith, part_in c.requires.0 c.requires.1, bytes-is c.requires.0.edition, c.offset-a.ensures)
@@ -32,7 +18,6 @@ pub take_change-requires : goal.take_change-requires
 take_change-requires c =
     let p = part-page c.args.l.least c.args.s.now c.args.n c.offset-a.result
     c.args.l.bytes c.offset-a.ensures (bytes-is c.requires.0.edition) in (
-      c.requires.0.edition,
       rw p (exact c.requires.0 c.requires.1),
       c.requires.2,
       c.requires.3.first.key,

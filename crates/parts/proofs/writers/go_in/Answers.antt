@@ -1,6 +1,6 @@
 use Rattle.parts.proofs.laws.Becomes.{lent}
 use Rattle.parts.specs.Kept.{pages_of}
-use Rattle.parts.proofs.laws.Kept.{part_in, short, exact, shown, valid}
+use Rattle.parts.proofs.laws.Kept.{part_in, exact, shown, valid}
 use Rattle.edit.proofs.laws.Left.{valid-gone}
 use Rattle.store.proofs.laws.Parts.{part-page}
 use Rattle.page.proofs.laws.Editions.{bytes-is}
@@ -8,21 +8,7 @@ use Rattle.model.specs.Store.{page}
 use Rattle.model.specs.Page.{gone}
 use native.Mathlib.Omega.{arith}
 use mathlib.Core.Path.{◌∙◌}
-use borrow.Author.Rules.{rules}
 use Rattle.parts.proofs.writers.go_in.Goals as goal
-
-pub offset-a-requires : goal.offset-a-requires
-offset-a-requires c = (c.requires.0.edition, omega (arith, part_in c.requires.0 c.requires.1, short c.requires.0))
-
-pub overflow_add-a : goal.overflow_add-a
-overflow_add-a c =
-    omega (
-      arith,
-      part_in c.requires.0 c.requires.1,
-      short c.requires.0,
-      bytes-is c.requires.0.edition,
-      c.offset-a.ensures,
-    )
 
 pub slice_bounds-go-end : goal.slice_bounds-go-end
 slice_bounds-go-end c = omega (arith, part_in c.requires.0 c.requires.1, bytes-is c.requires.0.edition, c.offset-a.ensures)
@@ -31,7 +17,7 @@ pub go-requires : goal.go-requires
 go-requires c =
     let p = part-page c.args.l.least c.args.s.now c.args.n c.offset-a.result
     c.args.l.bytes c.offset-a.ensures (bytes-is c.requires.0.edition) in
-    (c.requires.0.edition, rw p (exact c.requires.0 c.requires.1), c.requires.2)
+    (rw p (exact c.requires.0 c.requires.1), c.requires.2)
 
 pub returns : goal.returns
 returns c =

@@ -1,13 +1,7 @@
 -- `end_others` meets its contract: what is left is done by the keys from k on. Assumes nothing.
-use Prim.Native.Nat.{◌-◌}
-use native.Mathlib.Omega.{arith}
-use Rattle.model.specs.Walk.{key_limit}
+use Rattle.plain.proofs.laws.Turns.{other-silent, turning-start, turning-on, turning-end}
 use Rattle.plain.specs.Plain.{end_other}
-use Rattle.plain.proofs.laws.Turns.{Turning, other-silent, turning-start, turning-on, turning-end}
 use Rattle.plain.proofs.back.end_others.Goals as goal
-
-pub next_key-k-requires : goal.next_key-k-requires
-next_key-k-requires c = (c.requires.room, omega arith)
 
 pub loop-k-init : goal.loop-k-init
 loop-k-init c =
@@ -15,35 +9,13 @@ loop-k-init c =
     turning-start (end_other a.w a.v) a.w a.v (other-silent a.w a.v) a.items.now a.n
     c.requires c.next_key-k.result c.next_key-k.ensures
 
-pub end_other-m-requires : goal.end_other-m-requires
-end_other-m-requires c = c.loop-k.invariant.lent
-
-pub overflow_add-k : goal.overflow_add-k
-overflow_add-k c = omega (arith, c.loop-k-test.true)
-
-pub next_key-k-requires-in-loop-k : goal.next_key-k-requires-in-loop-k
-next_key-k-requires-in-loop-k c = (c.end_other-m.ensures.lent.room, omega (arith, c.loop-k-test.true))
-
-pub loop-k-smaller : goal.loop-k-smaller
-loop-k-smaller c =
-    omega (
-      arith,
-      c.loop-k-test.true,
-      c.next_key-k-in-loop-k.ensures.behind,
-      c.next_key-k-in-loop-k.ensures.within,
-    )
-
 pub loop-k-preserved : goal.loop-k-preserved
 loop-k-preserved c =
     let a = c.args in
     let l = c.loop-k in
     turning-on (end_other a.w a.v) a.w a.v (other-silent a.w a.v) a.items.now a.n l.items l.m l.k
-    c.loop-k-test.true l.invariant _ _
-    c.end_other-m.ensures
+    c.loop-k-test.true l.invariant _ _ c.end_other-m.ensures
     c.next_key-k-in-loop-k.result c.next_key-k-in-loop-k.ensures
-
-pub shape_of-items : goal.shape_of-items
-shape_of-items c = c.loop-k.invariant.same
 
 pub returns : goal.returns
 returns c =

@@ -1,9 +1,8 @@
 -- `end_others` meets its contract: what is left is done by the keys from k on. Assumes nothing.
 use Prim.Native.Nat.{◌-◌}
-use native.Mathlib.Omega.{arith}
 use Rattle.model.specs.Walk.{key_limit}
 use Rattle.plain.specs.Plain.{end_other}
-use Rattle.plain.proofs.laws.Turns.{Turning, other-silent, turning-start, turning-on, turning-end}
+use Rattle.plain.proofs.laws.Turns.{Turning}
 use Rattle.plain.proofs.back.end_others.Given as goal
 
 abbrev pub invariant-loop-k : goal.invariant-loop-k

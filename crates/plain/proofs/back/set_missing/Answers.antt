@@ -1,13 +1,7 @@
 -- `set_missing` meets its contract: what is left is done by the keys from k on. Assumes nothing.
-use Prim.Native.Nat.{◌-◌}
-use native.Mathlib.Omega.{arith}
-use Rattle.model.specs.Walk.{key_limit}
+use Rattle.plain.proofs.laws.Turns.{missing-silent, turning-start, turning-on, turning-end, turning-room}
 use Rattle.plain.specs.Plain.{set_missing}
-use Rattle.plain.proofs.laws.Turns.{Turning, missing-silent, turning-start, turning-on, turning-end, turning-room}
 use Rattle.plain.proofs.back.set_missing.Goals as goal
-
-pub next_key-k-requires : goal.next_key-k-requires
-next_key-k-requires c = (c.requires.0.room, omega arith)
 
 pub loop-k-init : goal.loop-k-init
 loop-k-init c =
@@ -18,26 +12,8 @@ loop-k-init c =
 pub set_one-m-requires : goal.set_one-m-requires
 set_one-m-requires c =
     let a = c.args in
-    let l = c.loop-k in (
-      l.invariant.lent,
-      turning-room a.w a.v a.items.now a.n c.requires.1 l.items
-          l.m l.k c.loop-k-test.true l.invariant,
-    )
-
-pub overflow_add-k : goal.overflow_add-k
-overflow_add-k c = omega (arith, c.loop-k-test.true)
-
-pub next_key-k-requires-in-loop-k : goal.next_key-k-requires-in-loop-k
-next_key-k-requires-in-loop-k c = (c.set_one-m.ensures.lent.room, omega (arith, c.loop-k-test.true))
-
-pub loop-k-smaller : goal.loop-k-smaller
-loop-k-smaller c =
-    omega (
-      arith,
-      c.loop-k-test.true,
-      c.next_key-k-in-loop-k.ensures.behind,
-      c.next_key-k-in-loop-k.ensures.within,
-    )
+    let l = c.loop-k in
+    (l.invariant.lent, turning-room a.w a.v a.items.now a.n c.requires.1 l.items l.m l.k c.loop-k-test.true l.invariant)
 
 pub loop-k-preserved : goal.loop-k-preserved
 loop-k-preserved c =
@@ -46,9 +22,6 @@ loop-k-preserved c =
     turning-on (set_missing a.w a.v) a.w a.v (missing-silent a.w a.v) a.items.now a.n l.items l.m l.k
     c.loop-k-test.true l.invariant _ _ c.set_one-m.ensures
     c.next_key-k-in-loop-k.result c.next_key-k-in-loop-k.ensures
-
-pub shape_of-items : goal.shape_of-items
-shape_of-items c = c.loop-k.invariant.same
 
 pub returns : goal.returns
 returns c =

@@ -1,9 +1,8 @@
 -- `set_missing` meets its contract: what is left is done by the keys from k on. Assumes nothing.
 use Prim.Native.Nat.{◌-◌}
-use native.Mathlib.Omega.{arith}
 use Rattle.model.specs.Walk.{key_limit}
 use Rattle.plain.specs.Plain.{set_missing}
-use Rattle.plain.proofs.laws.Turns.{Turning, missing-silent, turning-start, turning-on, turning-end, turning-room}
+use Rattle.plain.proofs.laws.Turns.{Turning}
 use Rattle.plain.proofs.back.set_missing.Given as goal
 
 abbrev pub invariant-loop-k : goal.invariant-loop-k

@@ -1,48 +1,23 @@
 -- `lent::prune` meets its contract. Assumes nothing.
-use mathlib.Core.Bool.{true}
-use mathlib.Core.Path.{◌≡◌, sym, ◌∙◌}
-use borrow.Author.Tests.{not-true, not-false}
 use Rattle.plain.specs.Plain.{Plain, prune}
-use Rattle.plain.specs.Guard.{is_lent, read_plain}
-use Rattle.plain.proofs.laws.Lending.{refuses, fits, leaves-few}
+use Rattle.plain.proofs.laws.Lending.{fits, again, few-room}
 use Rattle.plain.proofs.Guards as guards
 use Rattle.plain.proofs.Again as again
-use borrow.Author.Rules.{rules}
 use Rattle.plain.proofs.lent.prune.Goals as goal
-use Rattle.plain.proofs.lent.prune.Goals.{Else-not-is_lent}
 
-pub returns-then-not-is_lent : goal.returns-then-not-is_lent
-returns-then-not-is_lent c =
+pub numbers-requires : goal.numbers-requires
+numbers-requires c =
     let a = c.args in
-    let none = sym c.is_lent.ensures ∙ not-true c.is_lent.result c.if-not-is_lent.true-raw in
-    let parts = refuses a.items.now a.state.now none (prune (read_plain a.items.now a.state.now) a.version) in record { given = parts.0; spared = parts.1.0; untouched = parts.1.1.0; again = parts.1.1.1 }
+    let s = c.in_ok-s in
+    let f = λ (q : Plain). prune q a.version in
+    fits a.items.now a.state.now s.s s.ensures c.in_ok-prune.field-0 c.prune.new.items f c.in_ok-prune.ensures
+    (few-room a.items.now a.state.now s.s s.ensures f (λ q. guards.prune-few q a.version))
 
--- past the test the numbers are a plain store
-yes : (c : Else-not-is_lent) →
-    let a = c.args in is_lent a.items.now a.state.now ≡ true
-yes c = sym c.is_lent.ensures ∙ not-false c.is_lent.result c.if-not-is_lent.false-raw
-
-pub prune-r-requires : goal.prune-r-requires
-prune-r-requires c =
+pub returns-clause-again : goal.returns-clause-again
+returns-clause-again c =
     let a = c.args in
-    guards.own_held a.items.now a.state.now (yes c.before.before) _ c.state_of-s.ensures.0
-
-pub keep-requires : goal.keep-requires
-keep-requires c =
-    let a = c.args in
-    let lent = yes (goal.at.keep-requires c).Else-not-is_lent in
-    let s = c.state_of-s in
-    let call = c.prune-r in
-    fits a.items.now a.state.now lent s.result s.ensures.0 call.result call.new.items
-    (λ (q : Plain). prune q a.version) call.ensures (λ q. guards.prune-few q a.version)
-
-pub returns : goal.returns
-returns c =
-    let a = c.args in
-    let lent = yes (goal.at.returns c).Else-not-is_lent in
-    let s = c.state_of-s in
-    let call = c.prune-r in
-    let parts = leaves-few a.items.now a.state.now lent s.result s.ensures.0 call.result call.new.items
-    (λ (q : Plain). prune q a.version) call.ensures (λ q. guards.prune-few q a.version)
-    (λ q h. again.prune-stands q h a.version) call.auto.items c.keep.result c.keep.new.state c.keep.ensures.number
-    c.keep.ensures.numbers in record { given = parts.0; spared = parts.1.0; untouched = parts.1.1.0; again = parts.1.1.1 }
+    let s = c.in_ok-s in
+    let f = λ (q : Plain). prune q a.version in
+    again a.items.now a.state.now s.s s.ensures c.in_ok-prune.field-0 c.prune.new.items f c.in_ok-prune.ensures
+    (few-room a.items.now a.state.now s.s s.ensures f (λ q. guards.prune-few q a.version))
+    (λ q h. again.prune-stands q h a.version) c.prune.auto.items c.numbers.result c.numbers.ensures

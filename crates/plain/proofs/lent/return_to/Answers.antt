@@ -1,88 +1,62 @@
 -- `lent::return_to` meets its contract. Assumes nothing.
 use Prim.Native.Nat.{◌+◌}
 use mathlib.Core.Bool.{true}
-use mathlib.Core.Path.{◌≡◌, sym, ◌∙◌}
-use borrow.Author.Tests.{not-true, not-false}
+use mathlib.Core.Path.{◌≡◌, ◌∙◌, ap}
+use Rattle.std.proofs.lemmas.Result.{err_from_is_err_and}
+use Rattle.model.specs.Refusals.{list_number_of}
 use Rattle.plain.specs.Plain.{Plain, return}
-use Rattle.plain.specs.Items.{plain_of}
-use Rattle.plain.specs.Calls.{Room}
-use Rattle.plain.specs.Guard.{state_of, is_lent, read_plain, fitted, own_inserts}
-use Rattle.plain.proofs.laws.Lending.{refuses, spares, leaves}
+use Rattle.plain.specs.Guard.{state_of, is_lent, read_plain, left_lent, fitted, own_inserts}
+use Rattle.plain.proofs.laws.Lending.{gives, fits, again}
 use Rattle.plain.proofs.Guards as guards
 use Rattle.plain.proofs.Again as again
-use borrow.Author.Rules.{rules}
 use Rattle.plain.proofs.lent.return_to.Goals as goal
-use Rattle.plain.proofs.lent.return_to.Goals.{Else-not-is_lent, Else-return_lacks}
 
-pub returns-then-not-is_lent : goal.returns-then-not-is_lent
-returns-then-not-is_lent c =
+pub returns-in_err-return_fits-clause-given : goal.returns-in_err-return_fits-clause-given
+returns-in_err-return_fits-clause-given c =
     let a = c.args in
+    let s = c.in_ok-s in
     let p = read_plain a.items.now a.state.now in
-    let none = sym c.is_lent.ensures ∙ not-true c.is_lent.result c.if-not-is_lent.true-raw in
-    let parts = refuses a.items.now a.state.now none
-    (fitted a.items.now ((state_of a.state.now).count + own_inserts p a.version) p (return p a.version)) in record { given = parts.0; spared = parts.1.0; untouched = parts.1.1.0; again = parts.1.1.1 }
+    let no = c.in_err-return_fits in
+    let short : (guards.return-lack a.items.now a.state.now s.ensures.lent s.s s.ensures.state a.version ≡ true)
+    × (list_number_of no.field-0.0 ≡ 14) = no.ensures in
+    let e = err_from_is_err_and c.from_residual-in_err-return_fits.result c.from_residual-in_err-return_fits.ensures.1 in
+    rw (e.1, e.2, short.1)
+    (guards.own-return-short a.items.now a.state.now s.ensures.lent s.s s.ensures.state a.version short.0
+    ∙ guards.guarded-some (is_lent a.items.now a.state.now) p
+    (fitted a.items.now ((state_of a.state.now).count + own_inserts p a.version) p (return p a.version)) s.ensures.lent)
 
--- past the test the numbers are a plain store
-yes : (c : Else-not-is_lent) →
-    let a = c.args in is_lent a.items.now a.state.now ≡ true
-yes c = sym c.is_lent.ensures ∙ not-false c.is_lent.result c.if-not-is_lent.false-raw
-
-pub return_lacks-requires : goal.return_lacks-requires
-return_lacks-requires c =
+pub return_to-requires : goal.return_to-requires
+return_to-requires c =
     let a = c.args in
-    guards.own_held a.items.now a.state.now (yes c.before) _ c.state_of-s.ensures.0
-
-pub returns-then-return_lacks : goal.returns-then-return_lacks
-returns-then-return_lacks c =
-    let a = c.args in
-    let p = read_plain a.items.now a.state.now in
-    let lent = yes c.before.before.before in
-    let s = c.state_of-s in
-    let lack = c.return_lacks in
-    let parts = spares a.items.now a.state.now lent 14
-    (fitted a.items.now ((state_of a.state.now).count + own_inserts p a.version) p (return p a.version))
-    (guards.own-return-short a.items.now a.state.now lent s.result s.ensures.0 a.version lack.result lack.ensures
-    c.if-return_lacks.true) in record { given = parts.0; spared = parts.1.0; untouched = parts.1.1.0; again = parts.1.1.1 }
-
--- and past the second there is room
-room : (c : Else-return_lacks) →
-    let a = c.args in
-    Room (return (plain_of c.state_of-s.result a.items.now) a.version) a.items.now
-room c =
-    let a = c.args in
-    let s = c.state_of-s in
-    guards.own-return-room a.items.now a.state.now (yes c.before.before.before) s.result s.ensures.0
-    a.version c.return_lacks.result c.return_lacks.ensures c.if-return_lacks.false
-
-pub return_to-r-requires : goal.return_to-r-requires
-return_to-r-requires c =
-    let a = c.args in
-    let s = c.state_of-s in (
-      guards.own_held a.items.now a.state.now (yes c.before.before.before.before) s.result s.ensures.0,
-      room c.before,
+    let s = c.in_ok-s in (
+      guards.own_held a.items.now a.state.now s.ensures.lent s.s s.ensures.state,
+      guards.own-return-room a.items.now a.state.now s.ensures.lent s.s s.ensures.state a.version c.in_ok-return_fits.ensures,
     )
 
-pub keep-requires : goal.keep-requires
-keep-requires c =
+pub numbers-requires : goal.numbers-requires
+numbers-requires c =
     let a = c.args in
-    let lent = yes (goal.at.keep-requires c).Else-not-is_lent in
-    let s = c.state_of-s in
-    let call = c.return_to-r in
-    guards.own-fits a.items.now a.state.now lent s.result s.ensures.0 call.result call.new.items
-    (λ (q : Plain). return q a.version) call.ensures (room (goal.at.keep-requires c).Else-return_lacks)
+    let s = c.in_ok-s in
+    let t = c.in_ok-return_to in
+    fits a.items.now a.state.now s.s s.ensures t.field-0 c.return_to.new.items (λ (q : Plain). return q a.version) t.ensures
+    (guards.own-return-room a.items.now a.state.now s.ensures.lent s.s s.ensures.state a.version c.in_ok-return_fits.ensures)
 
-pub returns : goal.returns
-returns c =
+pub returns-clause-given : goal.returns-clause-given
+returns-clause-given c =
     let a = c.args in
+    let s = c.in_ok-s in
+    let t = c.in_ok-return_to in
     let p = read_plain a.items.now a.state.now in
-    let lent = yes (goal.at.returns c).Else-not-is_lent in
-    let s = c.state_of-s in
-    let lack = c.return_lacks in
-    let call = c.return_to-r in
-    let roomy = guards.own-return-roomy a.items.now a.state.now lent s.result s.ensures.0 a.version lack.result
-    lack.ensures c.if-return_lacks.false in
-    let parts = leaves a.items.now a.state.now lent s.result s.ensures.0 call.result call.new.items
-    (λ (q : Plain). return q a.version) call.ensures (room (goal.at.returns c).Else-return_lacks)
-    (λ q h. again.return-stands q h a.version) call.auto.items c.keep.result c.keep.new.state c.keep.ensures.number
-    c.keep.ensures.numbers (fitted a.items.now ((state_of a.state.now).count + own_inserts p a.version) p (return p a.version))
-    roomy in record { given = parts.0; spared = parts.1.0; untouched = parts.1.1.0; again = parts.1.1.1 }
+    ap (left_lent 0 c.return_to.new.items) c.numbers.ensures
+    ∙ gives a.items.now a.state.now s.s s.ensures t.field-0 c.return_to.new.items (λ (q : Plain). return q a.version) t.ensures
+    (fitted a.items.now ((state_of a.state.now).count + own_inserts p a.version) p (return p a.version))
+    (guards.own-return-roomy a.items.now a.state.now s.ensures.lent s.s s.ensures.state a.version c.in_ok-return_fits.ensures)
+
+pub returns-clause-again : goal.returns-clause-again
+returns-clause-again c =
+    let a = c.args in
+    let s = c.in_ok-s in
+    let t = c.in_ok-return_to in
+    again a.items.now a.state.now s.s s.ensures t.field-0 c.return_to.new.items (λ (q : Plain). return q a.version) t.ensures
+    (guards.own-return-room a.items.now a.state.now s.ensures.lent s.s s.ensures.state a.version c.in_ok-return_fits.ensures)
+    (λ q h. again.return-stands q h a.version) c.return_to.auto.items c.numbers.result c.numbers.ensures

@@ -1,12 +1,8 @@
 -- `change_after` meets its contract: up to u the value has not changed. Assumes nothing.
 use Prim.Native.Nat.{ℕ, suc, ◌-◌}
-use native.Mathlib.Omega.{arith}
-use mathlib.Core.Path.{sym, ◌∙◌}
 use Rattle.plain.specs.Plain.{value_at}
 use Rattle.plain.specs.Items.{from}
-use Rattle.model.proofs.reading.Lives.{Lasting, lasts-end}
-use Rattle.plain.proofs.laws.Lived.{lasts_on, lasts-other}
-use borrow.Author.Rules.{rules}
+use Rattle.model.proofs.reading.Lives.{Lasting}
 use Rattle.plain.proofs.life.change_after.Given as goal
 
 abbrev pub invariant-loop-u : goal.invariant-loop-u

@@ -1,16 +1,9 @@
 -- `next_change` meets its contract: the items from place i on say the same of the key. Assumes nothing.
-use Prim.Native.Nat.{ℕ, ◌+◌, ◌-◌, ◌≤◌}
-use native.Mathlib.Omega.{arith}
-use mathlib.Core.Path.{◌≡◌, subst}
+use Prim.Native.Nat.{ℕ}
 use Rattle.plain.specs.Plain.{value_at}
 use Rattle.plain.specs.Items.{from}
 use Rattle.model.specs.Still.{Until}
-use Rattle.plain.proofs.laws.Lived.{until_none, until-more}
-use borrow.Author.Rules.{rules}
 use Rattle.plain.proofs.life.next_change.Given as goal
 
 abbrev pub invariant-loop-i : goal.invariant-loop-i
-invariant-loop-i l = (l.i ≤ l.n) × Until l.v l.r (λ (w : ℕ). value_at l.key w (from l.items l.i l.n)) l.q
-
-abbrev pub decreases-loop-i : goal.decreases-loop-i
-decreases-loop-i l = l.i
+invariant-loop-i l = Until l.v l.r (λ (w : ℕ). value_at l.key w (from l.items l.i l.n)) l.q

@@ -1,17 +1,16 @@
 -- `tell_life` meets its contract: what is left is the life from version v on. Assumes nothing.
-use Prim.Native.Nat.{ℕ, suc, ◌-◌}
+use Prim.Native.Nat.{ℕ}
 use native.Mathlib.Omega.{arith}
 use mathlib.Core.Option.{Option}
 use mathlib.Core.Path.{sym}
-use Rattle.model.specs.Life.{life_of}
+use Rattle.model.specs.Refusals.{found_in}
 use Rattle.model.proofs.reading.Lives.{rest, rest-start, rest_end}
-use Rattle.model.proofs.reading.Telling.{Gathering, space-front, gather-start, gather-same, gather-step, gather-end}
+use Rattle.model.proofs.reading.Telling.{space-front, gather-start, gather-same, gather-step, gather-end}
 use Rattle.plain.specs.Plain.{value_at}
 use Rattle.plain.specs.Items.{from}
 use Rattle.model.specs.Still.{stretches}
 use Rattle.plain.specs.Lived.{shown}
 use Rattle.plain.proofs.laws.Lived.{rest-told}
-use borrow.Author.Rules.{rules}
 use Rattle.plain.proofs.life.tell_life.Goals as goal
 
 pub loop-v-init : goal.loop-v-init
@@ -20,12 +19,6 @@ loop-v-init c =
     gather-same stretches (sym (rest-start a.c (λ (w : ℕ). value_at a.key w (from a.items.now 0 a.n)) a.old))
     (gather-start stretches c.requires.2)
 
-pub value_at-a-requires : goal.value_at-a-requires
-value_at-a-requires c = c.requires.0
-
-pub change_after-r-requires : goal.change_after-r-requires
-change_after-r-requires c = let p = c.requires in (p.0, p.1, c.loop-v-test.true, c.value_at-a.ensures)
-
 pub tell_stretch-found-requires : goal.tell_stretch-found-requires
 tell_stretch-found-requires c =
     let a = c.args in
@@ -33,17 +26,9 @@ tell_stretch-found-requires c =
     let f : ℕ → Option ℕ = λ (w : ℕ). value_at a.key w (from a.items.now 0 a.n) in
     let x = c.value_at-a in
     let r = c.change_after-r in
-    let e = rest-told a.c f l.v r.result c.shown_end.result x.result r.ensures x.ensures c.shown_end.ensures in
-    space-front stretches (shown l.v c.shown_end.result x.result) (rest a.c f r.result)
+    let e = rest-told a.c f l.v r.result r.ensures x.ensures c.shown_end.ensures in
+    space-front stretches (shown l.v c.shown_end.result (found_in x.result)) (rest a.c f r.result)
     (gather-same stretches e l.invariant).space
-
-pub loop-v-smaller : goal.loop-v-smaller
-loop-v-smaller c =
-    omega (
-      arith,
-      c.change_after-r.ensures.above,
-      c.loop-v-test.true,
-    )
 
 pub loop-v-preserved : goal.loop-v-preserved
 loop-v-preserved c =
@@ -53,12 +38,9 @@ loop-v-preserved c =
     let x = c.value_at-a in
     let r = c.change_after-r in
     let z = c.shown_end in
-    let e = rest-told a.c f l.v r.result z.result x.result r.ensures x.ensures z.ensures in
-    gather-step stretches (shown l.v z.result x.result) (rest a.c f r.result) (gather-same stretches e l.invariant) _ _
+    let e = rest-told a.c f l.v r.result r.ensures x.ensures z.ensures in
+    gather-step stretches (shown l.v z.result (found_in x.result)) (rest a.c f r.result) (gather-same stretches e l.invariant) _ _
     c.tell_stretch-found.ensures
-
-pub shape_of-list : goal.shape_of-list
-shape_of-list c = c.loop-v.invariant.same
 
 pub returns : goal.returns
 returns c =

@@ -1,15 +1,10 @@
 -- `same_settings` meets its contract: what differs of all keys is what differs of the keys left. Assumes nothing.
-use Prim.Native.Nat.{◌+◌, ◌-◌, ◌≤◌}
-use native.Mathlib.Omega.{arith}
-use mathlib.Core.Path.{◌≡◌, ap, sym, ◌∙◌}
-use mathlib.Core.List.{List}
-use Rattle.model.specs.Basic.{is_empty}
-use Rattle.model.specs.declared.Delta.{Delta}
+use Prim.Native.Nat.{◌-◌, ◌≤◌}
+use mathlib.Core.Path.{◌≡◌}
 use Rattle.model.specs.Walk.{key_limit}
 use Rattle.plain.specs.Plain.{keys, differs}
 use Rattle.plain.specs.Items.{from}
-use Rattle.plain.proofs.laws.Scan.{told, saying, differs-told, saying-skip, saying-same, saying-other, saying-end}
-use borrow.Author.Rules.{rules}
+use Rattle.plain.proofs.laws.Scan.{told, saying}
 use Rattle.plain.proofs.scan.same_settings.Given as goal
 
 abbrev pub invariant-loop-k : goal.invariant-loop-k

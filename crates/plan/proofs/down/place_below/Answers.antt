@@ -1,7 +1,6 @@
 use Rattle.parts.proofs.laws.Kept.{live-few}
 use Rattle.gather.proofs.laws.Gather.{listed}
 use native.Mathlib.Omega.{arith}
-use borrow.Author.Rules.{rules}
 use Rattle.plan.proofs.down.place_below.Goals as goal
 
 pub around_in-requires : goal.around_in-requires

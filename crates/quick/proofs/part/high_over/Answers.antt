@@ -1,27 +1,30 @@
-use mathlib.Core.Path.{sym}
+use Prim.Native.Nat.{ℕ}
+use mathlib.Core.Bool.{true}
+use mathlib.Core.List.{List}
+use mathlib.Core.Path.{◌≡◌, sym, ◌∙◌}
 use native.Mathlib.Omega.{arith}
+use lib.Dec.{ltb}
+use Rattle.std.proofs.Common.{ltb-true}
+use borrow.Author.Rules.{rules}
 use Rattle.model.specs.Layout.{read_entries}
+use Rattle.quick.specs.Part.{high_over}
 use Rattle.quick.proofs.laws.Order.{high-last}
 use Rattle.quick.proofs.part.high_over.Goals as goal
+use Rattle.quick.proofs.part.high_over.Goals.{then-n-eq0, else-n-eq0}
 
-pub returns-then-n-eq0 : goal.returns-then-n-eq0
+none : (k a b : ℕ) (p : List ℕ) (n : ℕ) → n ≡ 0 → high_over k a b (read_entries p 128 n) ≡ true
 unfolding read_entries
-returns-then-n-eq0 c = rw c.if-n-eq0.true
+none k a b p n z = rw z
 
-pub overflow_sub-n : goal.overflow_sub-n
-overflow_sub-n c = omega (arith, c.if-n-eq0.false)
+pub returns-then-entry_at-h : goal.returns-then-entry_at-h
+returns-then-entry_at-h c =
+    let a = c.args in let t = c.if-entry_at-h.true in
+    t ∙ sym (elim c.if-n-eq0.branch [
+      | then-n-eq0 w ↦ none a.h a.a a.b a.page.now a.n w.if-n-eq0.true
+      | else-n-eq0 w ↦
+          high-last a.page.now a.n c.requires.1 a.h a.a a.b (omega (arith, w.if-n-eq0.false))
+          (rw (← w.entry_at.ensures) (ltb-true w.entry_at.result.key a.h (sym w.value-is ∙ t)))
+    ])
 
-pub entry_at-e-requires : goal.entry_at-e-requires
-entry_at-e-requires c = (omega (arith, c.requires.0.room, c.if-n-eq0.false), c.requires.0.long)
-
-pub returns-then-e-h : goal.returns-then-e-h
-returns-then-e-h c =
-    let a = c.args in
-    sym (high-last a.page.now a.n c.requires.1 a.h a.a a.b (omega (arith, c.if-n-eq0.false))
-    (rw (← c.entry_at-e.ensures) c.if-e-h.true))
-
-pub keys_each-requires : goal.keys_each-requires
-keys_each-requires c = c.requires.0
-
-pub returns : goal.returns
-returns c = c.keys_each.ensures
+pub returns-else-entry_at-h : goal.returns-else-entry_at-h
+returns-else-entry_at-h c = c.keys_each.ensures (λ x. ltb x c.args.h) (λ x r p. search rules)

@@ -1,80 +1,58 @@
--- `nexts_fine` meets its contract: where something is left, the whole's answer is that of the entries from place k on. Assumes nothing.
-use Prim.Native.Nat.{◌<◌, ◌≤◌, ◌-◌, ◌+◌, ◌*◌, min, max}
-use mathlib.Core.Bool.{true, ◌&&◌}
-use mathlib.Core.Path.{◌≡◌, refl, ◌∙◌}
+-- `nexts_fine` meets its contract. Assumes nothing.
+use Prim.Native.Nat.{◌-◌, ◌+◌, ◌*◌}
+use mathlib.Core.Bool.{◌&&◌}
+use mathlib.Core.Path.{◌≡◌, ◌∙◌}
 use native.Mathlib.Omega.{arith}
-use borrow.Author.Rules.{rules}
-use borrow.Author.Tests.{not-true, not-false}
+use lib.Dec.{ltb}
+use Rattle.model.specs.Basic.{pick}
 use Rattle.model.specs.Layout.{decode, read_entries}
 use Rattle.spans.specs.Quick.{past, under as under_of, nexts}
 use Rattle.spans.proofs.laws.Stretches.{past_more}
 use Rattle.quick.specs.Under.{under_page}
 use Rattle.quick.proofs.laws.Under.{nexts-step, nexts-end, nexts-empty}
-use Rattle.quick.proofs.laws.Within.{settled, ends, goes_on}
+use Rattle.quick.proofs.laws.Within.{fewer, stops}
 use Rattle.quick.proofs.routers.nexts_fine.Goals as goal
+use Rattle.quick.proofs.routers.nexts_fine.Goals.{After-under}
 
-pub loop-k-init : goal.loop-k-init
-loop-k-init c = (c.requires.5, omega arith, omega arith, λ lt. refl)
+-- the entry at place k, and those behind it
+step : (c : After-under) → let a = c.args in let j = c.loop-k in let ps = (decode a.l.least a.s.now).pages in let d = c.entry_at-e.result in
+    nexts (under_page a.up ps a.m) a.a a.b (read_entries a.p.now (128 + 96 * a.i) (a.n - a.i))
+    ≡ (under_of a.up ps d.key c.max.result c.min.result a.m
+    && nexts (under_page a.up ps a.m) (past j.t d) a.b (read_entries a.p.now (128 + 96 * (j.k + 1)) (a.n - (j.k + 1))))
+step c =
+    let a = c.args in let j = c.loop-k in
+    j.invariant.2 ∙ nexts-step (decode a.l.least a.s.now).pages a.up a.p.now j.k a.n a.m j.t a.b c.entry_at-e.result c.entry_at-e.ensures
+    c.loop-k-test.true ∙ rw (← c.max.ensures, ← c.min.ensures)
 
-pub entry_at-e-requires : goal.entry_at-e-requires
-entry_at-e-requires c = (omega (arith, c.requires.4.room, c.loop-k-test.true), c.requires.4.long)
-
-pub next_fine-r-requires : goal.next_fine-r-requires
-next_fine-r-requires c = (
-  c.requires.0,
-  c.requires.1,
-  c.requires.2,
-  c.requires.3,
-  omega (arith, c.requires.6, c.loop-k.invariant.2),
-)
-
-pub returns-then-not-r : goal.returns-then-not-r
-returns-then-not-r c =
+pub returns-in_err-rest : goal.returns-in_err-rest
+returns-in_err-rest c =
     let a = c.args in let j = c.loop-k in let ps = (decode a.l.least a.s.now).pages in
-    let d = c.entry_at-e.result in
-    let x = nexts (under_page a.up ps a.m) a.a a.b (read_entries a.p.now (128 + 96 * a.i) (a.n - a.i)) in
-    let y = under_of a.up ps d.key (max j.t d.start) (min a.b d.end) a.m in
-    let z = nexts (under_page a.up ps a.m) (past j.t d) a.b
-    (read_entries a.p.now (128 + 96 * (j.k + 1)) (a.n - (j.k + 1))) in
-    let q : 0 < j.rest → x ≡ (y && z) = λ lt. j.invariant.3 lt
-    ∙ nexts-step ps a.up a.p.now j.k a.n a.m j.t a.b d c.entry_at-e.ensures c.loop-k-test.true in
-    ends a.left j.rest j.invariant.1 x y z c.next_fine-r.result q c.next_fine-r.ensures
-    (not-true c.next_fine-r.result.fine c.if-not-r.true)
-
-pub overflow_add-k : goal.overflow_add-k
-overflow_add-k c = omega (arith, c.loop-k-test.true, c.requires.4.room, c.requires.4.long)
-
-pub loop-k-smaller : goal.loop-k-smaller
-loop-k-smaller c = omega (arith, c.loop-k-test.true)
+    stops a.left (j.rest - pick (ltb c.max.result c.min.result) 1 0)
+    (nexts (under_page a.up ps a.m) a.a a.b (read_entries a.p.now (128 + 96 * a.i) (a.n - a.i)))
+    (under_of a.up ps c.entry_at-e.result.key c.max.result c.min.result a.m)
+    (λ q. step (goal.at.returns-in_err-rest c).After-under ∙ rw q) c.in_err-rest.field-0.0 c.in_err-rest.ensures
+    c.from_residual.result c.from_residual.ensures.1
 
 pub loop-k-preserved : goal.loop-k-preserved
 loop-k-preserved c =
-    let a = c.args in let j = c.loop-k in let ps = (decode a.l.least a.s.now).pages in
-    let d = c.entry_at-e.result in
-    let x = nexts (under_page a.up ps a.m) a.a a.b (read_entries a.p.now (128 + 96 * a.i) (a.n - a.i)) in
-    let y = under_of a.up ps d.key (max j.t d.start) (min a.b d.end) a.m in
-    let z = nexts (under_page a.up ps a.m) (past j.t d) a.b
-    (read_entries a.p.now (128 + 96 * (j.k + 1)) (a.n - (j.k + 1))) in
-    let q : 0 < j.rest → x ≡ (y && z) = λ lt. j.invariant.3 lt
-    ∙ nexts-step ps a.up a.p.now j.k a.n a.m j.t a.b d c.entry_at-e.ensures c.loop-k-test.true in
-    let g = goes_on a.left j.rest j.invariant.1 x y z c.next_fine-r.result q c.next_fine-r.ensures
-    (not-false c.next_fine-r.result.fine c.if-not-r.false) in (
-      omega (arith, c.loop-k-test.true),
-      g.0,
-      omega (arith, j.invariant.2, c.past-t.ensures, past_more j.t d),
-      λ lt. rw c.past-t.ensures (g.1 lt),
+    let j = c.loop-k in (
+      omega (arith, j.invariant.0, c.in_ok-rest.ensures.0, fewer j.rest (ltb c.max.result c.min.result)),
+      omega (arith, j.invariant.1, c.past-t.ensures, past_more j.t c.entry_at-e.result),
+      step (goal.at.loop-k-preserved c).After-under ∙ rw (c.in_ok-rest.ensures.1, c.past-t.ensures),
     )
 
 pub returns-after-loop-k : goal.returns-after-loop-k
 returns-after-loop-k c =
-    let a = c.args in let j = c.loop-k in let ps = (decode a.l.least a.s.now).pages in
-    settled a.left j.rest j.invariant.1
-    (nexts (under_page a.up ps a.m) a.a a.b (read_entries a.p.now (128 + 96 * a.i) (a.n - a.i))) true
-    (λ lt. j.invariant.3 lt ∙ nexts-end ps a.up a.p.now j.k a.n a.m j.t a.b c.loop-k-test.false)
+    let a = c.args in let j = c.loop-k in (
+      j.invariant.0,
+      j.invariant.2 ∙ nexts-end (decode a.l.least a.s.now).pages a.up a.p.now j.k a.n a.m j.t a.b c.loop-k-test.false,
+    )
 
 pub returns-then-b-t : goal.returns-then-b-t
 returns-then-b-t c =
-    let a = c.args in let j = c.loop-k in
-    let u = under_page a.up (decode a.l.least a.s.now).pages a.m in
-    settled a.left j.rest j.invariant.1 (nexts u a.a a.b (read_entries a.p.now (128 + 96 * a.i) (a.n - a.i))) true
-    (λ lt. j.invariant.3 lt ∙ nexts-empty u j.t a.b (read_entries a.p.now (128 + 96 * j.k) (a.n - j.k)) c.if-b-t.true)
+    let a = c.args in let j = c.loop-k in (
+      j.invariant.0,
+      j.invariant.2
+          ∙ nexts-empty (under_page a.up (decode a.l.least a.s.now).pages a.m) j.t a.b
+          (read_entries a.p.now (128 + 96 * j.k) (a.n - j.k)) c.if-b-t.true,
+    )

@@ -1,6 +1,6 @@
 -- `under` and `ways_fine` meet their contracts, by what is left: `under` hands on one less than it was given, and no call of `under` has
 -- more than `ways_fine`. Assumes nothing.
-use Prim.Native.Nat.{◌<◌, ◌≤◌, ◌-◌, ◌+◌, ◌*◌}
+use Prim.Native.Nat.{◌≤◌, ◌-◌, ◌+◌, ◌*◌}
 use mathlib.Core.Path.{◌≡◌}
 use Rattle.model.specs.Layout.{decode, read_entries}
 use Rattle.spans.specs.Quick.{under as under_of, lasts}
@@ -16,9 +16,6 @@ decreases-ways_fine l = 2 * l.left + 1
 
 abbrev pub invariant-ways_fine-loop-i : goal.invariant-ways_fine-loop-i
 invariant-ways_fine-loop-i l =
-    (l.i ≤ l.count) × (l.rest ≤ l.left)
-    × (0 < l.rest → lasts (under_of l.up (decode l.l.least l.s).pages l.h) l.h l.a l.b (entries_at l.l.least l.s l.n)
+    (l.rest ≤ l.left)
+    × (lasts (under_of l.up (decode l.l.least l.s).pages l.h) l.h l.a l.b (entries_at l.l.least l.s l.n)
     ≡ lasts (under_of l.up (decode l.l.least l.s).pages l.h) l.h l.a l.b (read_entries l.p (128 + 96 * l.i) (l.count - l.i)))
-
-abbrev pub decreases-ways_fine-loop-i : goal.decreases-ways_fine-loop-i
-decreases-ways_fine-loop-i l = l.count - l.i

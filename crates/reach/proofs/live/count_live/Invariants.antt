@@ -1,10 +1,8 @@
 -- `reach::live::count_live` meets its contract: those counted and those from k on are all. Assumes nothing.
 use Prim.Native.Nat.{◌≤◌, ◌<◌, ◌-◌, ◌+◌, ◌*◌}
-use mathlib.Core.Path.{◌≡◌, ap}
+use mathlib.Core.Path.{◌≡◌}
 use mathlib.Core.List.{◌∷◌}
 use lib.ListN.{length}
-use native.Mathlib.Omega.{arith}
-use Rattle.reach.proofs.laws.Live.{pairs_end}
 use Rattle.reach.specs.Pending.{pairs_from}
 use Rattle.model.specs.Layout.{read_entry}
 use Rattle.model.specs.Entry.{pair_of}

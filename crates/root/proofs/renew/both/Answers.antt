@@ -1,6 +1,5 @@
 -- `both` meets its contract. Assumes nothing.
 use Rattle.root.proofs.laws.Renew.{lists-two}
-use borrow.Author.Rules.{rules}
 use Rattle.root.proofs.renew.both.Goals as goal
 
 pub returns : goal.returns

@@ -1,5 +1,4 @@
 -- `crown` meets its contract. Assumes nothing.
-use borrow.Author.Tests.{not-true, not-false}
 use native.Mathlib.Omega.{arith}
 use mathlib.Core.Path.{◌∙◌}
 use Prim.Native.Nat.{◌+◌}
@@ -11,27 +10,23 @@ use Rattle.gather.proofs.laws.Gather.{listed}
 use Rattle.climb.proofs.laws.Rebuild.{itself}
 use Rattle.root.specs.Root.{rooted_of}
 use Rattle.root.proofs.laws.Renew.{crown-one, crown-none, crown-two}
-use borrow.Author.Rules.{rules}
 use Rattle.root.proofs.renew.crown.Goals as goal
 
-pub returns-then-not-rs : goal.returns-then-not-rs
+pub returns-in_default : goal.returns-in_default
 unfolding rooted_of
-returns-then-not-rs c = (
-  rw c.wide.ensures
-      (crown-one c.args.w c.args.level (pages_of c.args.l c.args.s.now) c.args.rs
-      (not-true c.args.rs.two c.if-not-rs.true)),
+returns-in_default c = (
+  crown-one c.args.w c.args.level (pages_of c.args.l c.args.s.now) c.args.rs c.in_default.is,
   stays c.requires.0,
 )
 
 pub first_free-n-requires : goal.first_free-n-requires
-first_free-n-requires c = (c.requires.0, omega arith, omega (arith, c.requires.5, c.requires.0.holds.five), c.requires.5)
+first_free-n-requires c = (c.requires.0, omega arith, omega (arith, c.requires.4, c.requires.0.holds.five), c.requires.4)
 
 pub returns-then-n-size : goal.returns-then-n-size
 unfolding rooted_of
 returns-then-n-size c =
-    let ps = pages_of c.args.l c.args.s.now in
-    let two = not-false c.args.rs.two c.if-not-rs.false in (
-      crown-none c.args.w c.args.level ps c.args.rs two
+    let ps = pages_of c.args.l c.args.s.now in (
+      crown-none c.args.w c.args.level ps c.args.rs c.in-Some.next c.in-Some.is
           (free_all ps ∙ c.first_free-n.ensures.none (omega (arith, c.if-n-size.true))),
       stays c.requires.0,
     )
@@ -40,14 +35,14 @@ pub overflow_add-level : goal.overflow_add-level
 overflow_add-level c = omega (arith, c.requires.2)
 
 pub both-requires : goal.both-requires
-both-requires c = (c.requires.3, c.requires.4)
+both-requires c = (c.requires.3.first, c.requires.3.second c.in-Some.next c.in-Some.is)
 
 pub fill_in-requires : goal.fill_in-requires
 fill_in-requires c = (
   c.requires.0,
   record {
     low = c.first_free-n.ensures.low;
-    high = omega (arith, c.first_free-n.ensures.high, c.if-n-size.false, c.requires.5);
+    high = omega (arith, c.first_free-n.ensures.high, c.if-n-size.false, c.requires.4);
   },
   omega (arith, c.requires.2),
   c.requires.1,
@@ -61,10 +56,9 @@ pub returns : goal.returns
 unfolding rooted_of
 returns c =
     let ps = pages_of c.args.l c.args.s.now in
-    let two = not-false c.args.rs.two c.if-not-rs.false in
     let d = rw c.both.ensures.is at c.fill_in.ensures in (
       rw (pages-are c.requires.0 d)
-          (crown-two c.args.w c.args.level ps c.args.rs two c.first_free-n.result
+          (crown-two c.args.w c.args.level ps c.args.rs c.in-Some.next c.in-Some.is c.first_free-n.result
           (free_past ps (c.first_free-n.result + 1))
           (free_all ps ∙ c.first_free-n.ensures.some
           (omega (arith, c.first_free-n.ensures.high, c.if-n-size.false)))),

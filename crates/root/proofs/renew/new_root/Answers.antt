@@ -12,15 +12,11 @@ use Rattle.climb.proofs.laws.Work.{usable-small}
 use Rattle.climb.proofs.laws.Rebuild.{rebuilt-short}
 use Rattle.root.specs.Root.{rooted_of}
 use Rattle.root.proofs.laws.Renew.{renew-lacks}
-use borrow.Author.Rules.{rules}
 use Rattle.root.proofs.renew.new_root.Goals as goal
 use Rattle.root.proofs.renew.new_root.Goals.{After-fills}
 
 pub usable-u-requires : goal.usable-u-requires
 usable-u-requires c = (c.requires.0, c.requires.1.routed, c.requires.4)
-
-pub fills-requires : goal.fills-requires
-fills-requires c = c.requires.0.edition
 
 need-is : (c : After-fills) →
     c.fills.result ≡ fills c.args.l.least (pairs_in c.args.g.all)
@@ -43,7 +39,7 @@ pub routers_to-rs-requires : goal.routers_to-rs-requires
 routers_to-rs-requires c =
     let (x, y) = usable-small c.args.l c.args.s.now c.requires.0 c.args.w
     c.args.g.routers c.requires.1.routed c.usable-u.result c.usable-u.ensures in
-    (c.requires.0.edition, c.requires.1.good, c.requires.1.routed.first.fits, x, y)
+    (c.requires.1.good, c.requires.1.routed.first.fits, x, y)
 
 pub rebuild-requires : goal.rebuild-requires
 rebuild-requires c = (
@@ -62,7 +58,6 @@ crown-requires c =
       c.requires.2,
       c.requires.3,
       c.routers_to-rs.ensures.1,
-      c.routers_to-rs.ensures.2,
       c.requires.4 ∙ sym d.long,
     )
 

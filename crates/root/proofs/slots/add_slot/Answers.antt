@@ -6,32 +6,30 @@ use Rattle.store.proofs.laws.Header.{header-fits}
 use Rattle.page.proofs.laws.Editions.{root-bits}
 use Rattle.parts.proofs.laws.Kept.{front, short}
 use Rattle.root.proofs.laws.Slotted.{roots-are, next-is, added}
-use borrow.Author.Rules.{rules}
 use Rattle.root.proofs.slots.add_slot.Goals as goal
 
 pub header-h-requires : goal.header-h-requires
-header-h-requires c = let k = c.requires.0 in (k.edition, omega (arith, front k), short k)
+header-h-requires c = let k = c.requires.0 in (omega (arith, front k), short k)
 
-pub overflow_add-h : goal.overflow_add-h
-overflow_add-h c =
+pub overflow_add-x : goal.overflow_add-x
+overflow_add-x c =
     let k = c.requires.0 in
     omega (arith, ap (λ (h : Header). h.current) c.header-h.ensures, c.requires.2.low, next-is k)
 
 pub put_slot-requires : goal.put_slot-requires
 put_slot-requires c =
     let k = c.requires.0 in (
-      k.edition,
       record {
         version = omega (arith, ap (λ (h : Header). h.current) c.header-h.ensures, c.requires.2.low, next-is k);
         root = omega (arith, c.requires.1.high, k.most);
       },
       front k,
-      omega (arith, c.wide.ensures, ap (λ (h : Header). h.roots) c.header-h.ensures, roots-are k, c.requires.4),
+      omega (arith, ap (λ (h : Header). h.roots) c.header-h.ensures, roots-are k, c.requires.4),
       short k,
     )
 
-pub overflow_add-h-2 : goal.overflow_add-h-2
-overflow_add-h-2 c =
+pub overflow_add-h : goal.overflow_add-h
+overflow_add-h c =
     let k = c.requires.0 in
     omega (arith, ap (λ (h : Header). h.roots) c.header-h.ensures, roots-are k, c.requires.4, k.edition.eight)
 
@@ -40,7 +38,6 @@ put_header-requires c =
     let k = c.requires.0 in
     let f = header-fits c.args.l.least c.args.s.now in
     let n = c.put_slot.auto.s in (
-      k.edition,
       rw (c.with_roots.ensures, c.header-h.ensures)
           (record {
             pages = f.pages;
@@ -62,7 +59,6 @@ returns c =
       r,
       c.header-h.ensures,
       c.put_slot.ensures,
-      c.wide.ensures,
       r,
       n,
       next-is k,

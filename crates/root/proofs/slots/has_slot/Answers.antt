@@ -8,25 +8,22 @@ use native.Mathlib.Omega.{arith}
 use Rattle.model.specs.declared.Header.{Header}
 use Rattle.parts.proofs.laws.Kept.{front, short}
 use Rattle.root.proofs.laws.Slotted.{roots-are, next-is, has-slot-is}
-use borrow.Author.Rules.{rules}
 use Rattle.root.proofs.slots.has_slot.Goals as goal
 
 pub header-h-requires : goal.header-h-requires
-header-h-requires c = let k = c.requires.0 in (k.edition, omega (arith, front k), short k)
+header-h-requires c = let k = c.requires.0 in (omega (arith, front k), short k)
 
 pub overflow_sub-h : goal.overflow_sub-h
 overflow_sub-h c =
     let k = c.requires.0 in
     omega (arith, ap (λ (h : Header). h.roots) c.header-h.ensures, roots-are k, c.requires.1.some)
 
-pub slot-x-requires : goal.slot-x-requires
-slot-x-requires c =
+pub slot-requires : goal.slot-requires
+slot-requires c =
     let k = c.requires.0 in (
-      k.edition,
       front k,
       omega (
         arith,
-        c.wide.ensures,
         ap (λ (h : Header). h.roots) c.header-h.ensures,
         roots-are k,
         c.requires.1.some,
@@ -44,5 +41,5 @@ returns c =
     let r = ap (λ (h : Header). h.roots) c.header-h.ensures ∙ roots-are k in
     let v : c.header-h.result.current + 1 ≡ next (decode c.args.l.least c.args.s.now)
     = omega (arith, ap (λ (h : Header). h.current) c.header-h.ensures, next-is k) in
-    ap (λ (m : ℕ). eqb c.slot-x.result.version m) v
-    ∙ rw (c.slot-x.ensures, c.wide.ensures, r) (has-slot-is k c.requires.1)
+    ap (λ (m : ℕ). eqb c.slot.result.version m) v
+    ∙ rw (c.slot.ensures, r) (has-slot-is k c.requires.1)

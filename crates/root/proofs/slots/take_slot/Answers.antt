@@ -4,7 +4,6 @@ use Prim.Native.Nat.{◌*◌}
 use borrow.Author.Tests.{ltb-true}
 use lib.ListN.{length}
 use Rattle.root.specs.Slotted.{slots_of}
-use borrow.Author.Rules.{rules}
 use Rattle.root.proofs.slots.take_slot.Goals as goal
 
 pub replace_slot-requires : goal.replace_slot-requires

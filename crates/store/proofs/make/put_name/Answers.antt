@@ -1,24 +1,14 @@
 -- `store::make::put_name` meets its contract: five bytes are five fields of eight bits. Assumes nothing.
-use Rattle.store.proofs.laws.Fresh.{name-laid}
-use lib.ListN.{length-set}
-use native.Mathlib.Omega.{arith}
-use borrow.Author.Rules.{rules}
+use Rattle.std.proofs.Common.{arith, ap, ◌∙◌}
+use Prim.Native.Nat.{ℕ}
+use mathlib.Core.List.{List, ◌++◌}
+use lib.ListN.{set, drop}
+use Rattle.store.proofs.laws.Fresh.{name-written, name-laid}
 use Rattle.store.proofs.make.put_name.Goals as goal
 
-pub bounds-s-1 : goal.bounds-s-1
-bounds-s-1 c = simp length-set (omega arith)
-
-pub bounds-s-2 : goal.bounds-s-2
-bounds-s-2 c = simp length-set (omega arith)
-
-pub bounds-s-3 : goal.bounds-s-3
-bounds-s-3 c = simp length-set (omega arith)
-
-pub bounds-s-4 : goal.bounds-s-4
-bounds-s-4 c = simp length-set (omega arith)
-
-pub shape_of-s : goal.shape_of-s
-shape_of-s c = simp length-set
-
 pub returns : goal.returns
-returns c = name-laid c.args.s.now c.args.edition c.requires.1 c.requires.0 (omega arith)
+returns c =
+    let a = c.args in let s = a.s.now in
+    ap (λ (n : List ℕ). set (n ++ drop 4 s) 4 a.edition) c.copy_from_slice.ensures.after
+    ∙ ap (λ (b : List ℕ). set b 4 a.edition) (name-written s (omega arith))
+    ∙ name-laid s a.edition c.requires.1 c.requires.0 (omega arith)

@@ -1,8 +1,8 @@
 -- `table::down` meets its contract: the number of the whole walk is that of what was passed, joined with what is left. Assumes nothing.
-use Prim.Native.Nat.{ℕ, pred, ◌+◌, ◌*◌, ◌-◌, ◌^◌, ◌≤◌, ◌<◌}
+use Rattle.model.proofs.Edition.{edition}
+use Prim.Native.Nat.{ℕ, pred, ◌+◌, ◌*◌, ◌-◌}
 use native.Mathlib.Omega.{arith}
 use mathlib.Core.Path.{◌≡◌, ap, sym, ◌∙◌}
-use borrow.Author.Rules.{rules}
 use Rattle.tabled.proofs.laws.Most.{found-most}
 use Rattle.tabled.proofs.laws.Cells.{table-fewer}
 use Rattle.tabled.specs.Table.{found}
@@ -14,7 +14,7 @@ use Rattle.tabled.proofs.table.down.Goals as goal
 pub loop-k-init : goal.loop-k-init
 loop-k-init c =
     let a = c.args in (
-      c.requires.3,
+      c.requires.2,
       omega arith,
       omega arith,
       sym
@@ -26,15 +26,14 @@ step-w-requires c =
     let a = c.args in (
       c.requires.0,
       c.requires.1,
-      c.requires.2,
       c.loop-k-test.true,
-      table-fewer a.l.least a.s.now a.q.size c.requires.1.sized a.q.version a.q.low a.q.high
+      table-fewer a.l.least a.s.now a.q.size c.requires.0.sized a.q.version a.q.low a.q.high
           ((a.level + 1) * 4096) ((c.loop-k.k + 1) * 4096) a.table.now (omega (arith, c.loop-k.invariant.1))
-          c.requires.5,
+          c.requires.4,
     )
 
 pub joined-sum-requires : goal.joined-sum-requires
-joined-sum-requires c = (omega (arith, c.loop-k.invariant.2, c.requires.4, c.loop-k.invariant.1), omega (arith, c.step-w.ensures.1))
+joined-sum-requires c = (omega (arith, c.loop-k.invariant.2, c.requires.3, c.loop-k.invariant.1), omega (arith, c.step-w.ensures.1))
 
 pub loop-k-preserved : goal.loop-k-preserved
 loop-k-preserved c =
@@ -60,11 +59,11 @@ loop-k-preserved c =
 pub joined-requires : goal.joined-requires
 joined-requires c =
     let a = c.args in (
-      omega (arith, c.loop-k.invariant.2, c.requires.4, c.loop-k.invariant.1),
+      omega (arith, c.loop-k.invariant.2, c.requires.3, c.loop-k.invariant.1),
       omega (
         arith,
         c.leaf.ensures,
-        found-most a.l.least a.s.now c.requires.0.eight a.q.version a.q.low
+        found-most a.l.least a.s.now (edition c.args.l).eight a.q.version a.q.low
             a.q.high 0 0 c.loop-k.m,
       ),
     )

@@ -21,7 +21,7 @@ part-p-requires t c =
     let a = c.args in
     let r = c.requires.0 in
     let g = c.requires.1 in
-    (r.edition, (here-inside r a.q.version a.q.high a.up a.n a.at g).part, r.few)
+    ((here-inside r a.q.version a.q.high a.up a.n a.at g).part, r.few)
 
 pub head_of-h-requires : goal.head_of-h-requires
 head_of-h-requires t c = head-asks c.requires.0.edition c.part-p.result.now c.part-p.ensures.1
@@ -70,12 +70,10 @@ gather_by-k-requires t c =
       omega (arith, c.if-up-eq0.false, c.decreases),
       (
         r,
-        rw c.wide.ensures
-            (here-own r a.q.version a.q.high a.up a.n a.at g p h refl refl c.if-up-eq0.false o w),
-        rw c.wide.ensures
-            (space-front _ _
+        here-own r a.q.version a.q.high a.up a.n a.at g p h refl refl c.if-up-eq0.false o w,
+        space-front _ _
             (rw (here-range r a.q.version a.q.high a.up a.n a.at g p h refl refl c.if-up-eq0.false o w a.q.low) at
-            c.requires.2)),
+            c.requires.2),
         table-fewer a.l.least a.s.now (size_of a.l.least a.s.now) r.sized a.q.version a.q.low a.q.high
             ((a.up + 2) * 4096) ((a.up - 1 + 2) * 4096) a.table.now (omega arith) c.requires.3,
       ),
@@ -110,7 +108,7 @@ loop-i-init t c =
     let x = c.next_some-i.ensures in (
       x.within,
       x.here,
-      gather-start (rw x.same at (gathers-space _ _ s (rw c.wide.ensures at c.gather_by-k.ensures))),
+      gather-start (rw x.same at (gathers-space _ _ s c.gather_by-k.ensures)),
       x.right,
     )
 
@@ -139,8 +137,8 @@ gather_by-k-requires-in-loop-i t c =
       omega (arith, c.if-up-eq0.false, c.decreases),
       (
         r,
-        rw (c.wide-in-loop-i.ensures, c.entry_at-e.ensures, c.part-p.ensures.0) d.0,
-        rw (c.wide-in-loop-i.ensures, c.entry_at-e.ensures, c.part-p.ensures.0) (space-front _ _ y.space),
+        rw (c.entry_at-e.ensures, c.part-p.ensures.0) d.0,
+        rw (c.entry_at-e.ensures, c.part-p.ensures.0) (space-front _ _ y.space),
         table-fewer a.l.least a.s.now (size_of a.l.least a.s.now) r.sized a.q.version a.q.low a.q.high
             ((a.up + 2) * 4096) ((a.up - 1 + 2) * 4096) a.table.now (omega arith) c.requires.3,
       ),
@@ -200,7 +198,7 @@ loop-i-preserved t c =
       x.here,
       gather-same x.same
           (gather-step _ _ y _ _
-          (rw (c.wide-in-loop-i.ensures, c.entry_at-e.ensures, c.part-p.ensures.0) at
+          (rw (c.entry_at-e.ensures, c.part-p.ensures.0) at
           c.gather_by-k-in-loop-i.ensures)),
       x.right,
     )
@@ -224,5 +222,5 @@ returns t c =
     let z = ap (later (a.up - 1) ps a.q.version a.q.low a.q.high p h.count) e
     ∙ later-end (a.up - 1) ps a.q.version a.q.low a.q.high p h.count in
     rw (here-range r a.q.version a.q.high a.up a.n a.at g p h refl refl c.if-up-eq0.false o w a.q.low)
-    (gathers-append (rw c.wide.ensures at c.gather_by-k.ensures)
+    (gathers-append c.gather_by-k.ensures
     (rw c.next_some-i.ensures.same (gather-end (gather-same z l.invariant.2))))

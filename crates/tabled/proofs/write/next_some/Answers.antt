@@ -1,5 +1,5 @@
 -- `write::next_some` meets its contract: what is found from place i on is found from place k on. Assumes nothing.
-use Prim.Native.Nat.{suc, ◌+◌, ◌*◌, ◌-◌}
+use Prim.Native.Nat.{suc, ◌+◌, ◌*◌}
 use native.Mathlib.Omega.{arith}
 use mathlib.Core.Path.{◌≡◌, ap, ◌∙◌}
 use lib.ListN.{get_or}
@@ -7,7 +7,6 @@ use Rattle.local.proofs.laws.Sizes.{head-asks}
 use Rattle.model.specs.Layout.{size_of}
 use Rattle.page.specs.Head.{read_head}
 use Rattle.page.specs.declared.Head.{Head}
-use Rattle.tabled.specs.Skips.{Skips}
 use Rattle.tabled.proofs.laws.Skips.{skips-next, skips-on, skips-none}
 use Rattle.tabled.proofs.laws.Cells.{right-low, right-count}
 use Rattle.tabled.proofs.laws.Inside.{right-inside}
@@ -17,7 +16,6 @@ pub part-p-requires : goal.part-p-requires
 part-p-requires c =
     let a = c.args in
     let r = c.requires.0.reads in (
-      r.edition,
       (right-inside r.edition a.s.now (size_of a.l.least a.s.now) r.sized (suc a.up) a.n
           c.requires.0.right).part,
       r.few,
@@ -40,13 +38,12 @@ loop-k-init c =
     skips-next a.l.least a.s.now a.q.version a.q.low a.q.high a.up a.n a.i c.next_place-k.result
     (rw (c.head_of-h.ensures, c.part-p.ensures.0) at c.next_place-k.ensures) c.requires.2
 
-pub cell-here-requires : goal.cell-here-requires
-cell-here-requires c =
+pub cell-requires : goal.cell-requires
+cell-requires c =
     let a = c.args in
     let r = c.requires.0.reads in
     let f = right-count a.l.least a.s.now (size_of a.l.least a.s.now) r.sized (suc (suc a.up)) a.n (omega arith)
     c.requires.0.right in (
-      r.edition,
       right-low a.l.least a.s.now (size_of a.l.least a.s.now) r.sized (suc (suc a.up)) a.n (omega arith)
           c.requires.0.right,
       omega (arith, f, c.loop-k.invariant.within),
@@ -61,22 +58,18 @@ overflow_add-k c =
     c.requires.0.right in
     omega (arith, f, c.loop-k.invariant.within, r.edition.eight)
 
-pub cell-requires : goal.cell-requires
-cell-requires c =
+pub cell-requires-in-loop-k : goal.cell-requires-in-loop-k
+cell-requires-in-loop-k c =
     let a = c.args in
     let r = c.requires.0.reads in
     let m = ap (λ (x : Head). x.count) (c.head_of-h.ensures ∙ ap (read_head a.l.least) c.part-p.ensures.0) in
     let f = right-count a.l.least a.s.now (size_of a.l.least a.s.now) r.sized (suc (suc a.up)) a.n (omega arith)
     c.requires.0.right in (
-      r.edition,
       right-low a.l.least a.s.now (size_of a.l.least a.s.now) r.sized (suc (suc a.up)) a.n (omega arith)
           c.requires.0.right,
       omega (arith, f, m, c.loop-k-test.true),
       c.requires.0.long,
     )
-
-pub returns-then-here-cell : goal.returns-then-here-cell
-returns-then-here-cell c = c.loop-k.invariant
 
 pub overflow_add-k-in-loop-k : goal.overflow_add-k-in-loop-k
 overflow_add-k-in-loop-k c =
@@ -103,13 +96,10 @@ loop-k-preserved c =
     let k = c.loop-k.k in
     let m = ap (λ (x : Head). x.count) (c.head_of-h.ensures ∙ ap (read_head a.l.least) c.part-p.ensures.0) in
     let e : get_or a.table.now (a.n * (5 * a.l.least + 1) + k) 0 ≡ get_or a.table.now (a.n * (5 * a.l.least + 1) + (k + 1)) 0
-    = omega (arith, c.cell-here.ensures, c.if-here-cell.false, c.cell.ensures) in
+    = omega (arith, c.cell.ensures, c.if-cell.false, c.cell-in-loop-k.ensures) in
     let y = skips-none a.l.least a.s.now a.q.version a.q.low a.q.high a.up a.n a.i k c.loop-k.invariant
     (omega (arith, m, c.loop-k-test.true)) a.table.now c.requires.0.row e in
     skips-on a.l.least a.s.now a.q.version a.q.low a.q.high a.up a.n a.i k c.next_place-k-in-loop-k.result
     c.loop-k.invariant y.0
     (skips-next a.l.least a.s.now a.q.version a.q.low a.q.high a.up a.n (k + 1) c.next_place-k-in-loop-k.result
     (rw (c.head_of-h.ensures, c.part-p.ensures.0) at c.next_place-k-in-loop-k.ensures) y.1)
-
-pub returns : goal.returns
-returns c = c.loop-k.invariant

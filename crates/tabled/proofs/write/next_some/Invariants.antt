@@ -1,16 +1,6 @@
 -- `write::next_some` meets its contract: what is found from place i on is found from place k on. Assumes nothing.
-use Prim.Native.Nat.{suc, ◌+◌, ◌*◌, ◌-◌}
-use native.Mathlib.Omega.{arith}
-use mathlib.Core.Path.{◌≡◌, ap, ◌∙◌}
-use lib.ListN.{get_or}
-use Rattle.local.proofs.laws.Sizes.{head-asks}
-use Rattle.model.specs.Layout.{size_of}
-use Rattle.page.specs.Head.{read_head}
-use Rattle.page.specs.declared.Head.{Head}
+use Prim.Native.Nat.{◌-◌}
 use Rattle.tabled.specs.Skips.{Skips}
-use Rattle.tabled.proofs.laws.Skips.{skips-next, skips-on, skips-none}
-use Rattle.tabled.proofs.laws.Cells.{right-low, right-count}
-use Rattle.tabled.proofs.laws.Inside.{right-inside}
 use Rattle.tabled.proofs.write.next_some.Given as goal
 
 abbrev pub invariant-loop-k : goal.invariant-loop-k

@@ -1,6 +1,5 @@
 -- `delete_at` meets its contract. Assumes nothing.
 use Rattle.update.proofs.laws.Single.{delete-leaves, comes-to}
-use borrow.Author.Rules.{rules}
 use Rattle.update.proofs.single.delete_at.Goals as goal
 
 pub update_at-requires : goal.update_at-requires
@@ -8,7 +7,7 @@ update_at-requires c =
     let a = c.args in
     let q = c.requires in
     let p = q.0 in
-    (p.edition, p.sound, p.opened, p.key, c.deleting.ensures.1, delete-leaves p _ c.deleting.ensures.0, q.1, q.2)
+    (p.sound, p.opened, p.key, c.deleting.ensures.1, delete-leaves p _ c.deleting.ensures.0, q.1, q.2)
 
 pub returns : goal.returns
 returns c =

@@ -11,7 +11,6 @@ update_at-requires c =
     let a = c.args in
     let q = c.requires in
     let p = q.0 in (
-      p.edition,
       p.sound,
       p.opened,
       p.key,

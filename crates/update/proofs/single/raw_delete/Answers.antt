@@ -1,13 +1,12 @@
 -- `raw_delete` meets its contract. Assumes nothing.
 use Rattle.update.proofs.laws.Single.{delete-leaves, comes-to}
-use borrow.Author.Rules.{rules}
 use Rattle.update.proofs.single.raw_delete.Goals as goal
 
 pub update-requires : goal.update-requires
 update-requires c =
     let a = c.args in
     let p = c.requires in
-    (p.edition, p.sound, p.opened, p.key, c.deleting.ensures.1, delete-leaves p _ c.deleting.ensures.0)
+    (p.sound, p.opened, p.key, c.deleting.ensures.1, delete-leaves p _ c.deleting.ensures.0)
 
 pub returns : goal.returns
 returns c =

@@ -10,7 +10,6 @@ pub update-requires : goal.update-requires
 update-requires c =
     let a = c.args in
     let p = c.requires in (
-      p.edition,
       p.sound,
       p.opened,
       p.key,

@@ -2,7 +2,6 @@
 use Prim.Native.Nat.{◌+◌, ◌*◌, ◌/◌}
 use mathlib.Core.Path.{◌≡◌}
 use native.Mathlib.Omega.{arith}
-use borrow.Author.Rules.{rules}
 use borrow.Author.Tests.{lt-leb, le-leb}
 use Rattle.page.proofs.laws.Whole.{key-first}
 use Rattle.walk.specs.Scan.{entry}
@@ -14,13 +13,13 @@ key c =
     let a = c.args in
     key-first a.page.now (128 + 96 * a.i) c.first_word.result c.first_word.ensures
 
-pub returns-then-first_word-wide : goal.returns-then-first_word-wide
-returns-then-first_word-wide c =
+pub returns-else-low-first_word : goal.returns-else-low-first_word
+returns-else-low-first_word c =
     let a = c.args in
-    simp (lt-leb a.low (entry a.page.now a.i).key (omega (arith, key (goal.at.returns-then-first_word-wide c).After-first_word, c.wide.ensures, c.if-first_word-wide.true)))
+    rw (lt-leb (a.low * 256) c.first_word.result (omega arith), lt-leb a.low (entry a.page.now a.i).key (omega (arith, key (goal.at.returns-else-low-first_word c).After-first_word, c.if-low-first_word.false)))
 
-pub returns : goal.returns
-returns c =
+pub returns-then-low-first_word : goal.returns-then-low-first_word
+returns-then-low-first_word c =
     let a = c.args in
-    simp (le-leb a.low (entry a.page.now a.i).key (omega (arith, key (goal.at.returns c).After-first_word, c.wide.ensures, c.if-first_word-wide.false)))
+    simp (le-leb a.low (entry a.page.now a.i).key (omega (arith, key (goal.at.returns-then-low-first_word c).After-first_word, c.if-low-first_word.true)))
     c.alive_in.ensures

@@ -1,10 +1,9 @@
 -- `find` meets its contract. Assumes nothing.
 use mathlib.Core.Path.{◌∙◌}
-use borrow.Author.Rules.{rules}
 use Rattle.walk.proofs.laws.Scan.{next-found}
 use Rattle.walk.proofs.search.find.Goals as goal
 
 pub returns : goal.returns
 returns c =
     let a = c.args in
-    c.answer_at.ensures ∙ next-found a.page.now a.v a.key a.n c.place_of-i.result c.place_of-i.ensures
+    c.answer_at.ensures ∙ next-found a.page.now a.v a.key a.n c.place_of.result c.place_of.ensures

@@ -1,8 +1,6 @@
 -- `fives` meets its contract. Assumes nothing.
-use Prim.Native.Nat.{ℕ, ◌+◌, ◌-◌, ◌≤◌, ◌<◌}
+use Prim.Native.Nat.{◌+◌, ◌<◌}
 use native.Mathlib.Omega.{arith}
-use borrow.Author.Rules.{rules}
-use Rattle.walk.specs.Scan.{entry}
 use Rattle.walk.proofs.laws.Places.{fives-on, fives-stop}
 use Rattle.walk.proofs.search.fives.Goals as goal
 

@@ -1,9 +1,6 @@
 -- `fives` meets its contract. Assumes nothing.
-use Prim.Native.Nat.{ℕ, ◌+◌, ◌-◌, ◌≤◌, ◌<◌}
-use native.Mathlib.Omega.{arith}
-use borrow.Author.Rules.{rules}
+use Prim.Native.Nat.{ℕ, ◌-◌, ◌≤◌, ◌<◌}
 use Rattle.walk.specs.Scan.{entry}
-use Rattle.walk.proofs.laws.Places.{fives-on, fives-stop}
 use Rattle.walk.proofs.search.fives.Given as goal
 
 abbrev pub invariant-loop-i : goal.invariant-loop-i

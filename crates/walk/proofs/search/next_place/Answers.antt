@@ -1,12 +1,9 @@
 -- `next_place` meets its contract: what the range has from i on, it has from k on. Assumes nothing.
-use Prim.Native.Nat.{◌+◌, ◌*◌, ◌/◌, ◌≤◌, ◌<◌, ◌-◌}
+use Prim.Native.Nat.{◌+◌, ◌*◌, ◌/◌, ◌≤◌, ◌<◌}
 use native.Mathlib.Omega.{arith}
 use mathlib.Core.Path.{◌≡◌, refl, sym, ◌∙◌}
-use borrow.Author.Rules.{rules}
-use Rattle.model.specs.Walk.{between}
 use Rattle.page.proofs.laws.Whole.{key-first}
-use Rattle.walk.specs.Live.{live}
-use Rattle.walk.specs.Scan.{from, entry}
+use Rattle.walk.specs.Scan.{entry}
 use Rattle.walk.proofs.laws.Scan.{next-passed, next-taken, next-above, next-none}
 use Rattle.walk.proofs.search.next_place.Goals as goal
 use Rattle.walk.proofs.search.next_place.Goals.{After-first_word}
@@ -28,7 +25,7 @@ pub returns-then-above-first_word : goal.returns-then-above-first_word
 returns-then-above-first_word c =
     let a = c.args in
     let l = c.loop-k in
-    let h : a.high < (entry a.page.now l.k).key = omega (arith, key (goal.at.returns-then-above-first_word c).After-first_word, c.wide.ensures, c.if-above-first_word.true) in
+    let h : a.high < (entry a.page.now l.k).key = omega (arith, key (goal.at.returns-then-above-first_word c).After-first_word, c.if-above-first_word.true) in
     record {
       behind = omega arith;
       within = omega arith;
@@ -45,7 +42,7 @@ returns-then-alive_from c =
     let a = c.args in
     let l = c.loop-k in
     let h : (entry a.page.now l.k).key ≤ a.high
-    = omega (arith, key (goal.at.returns-then-alive_from c).After-first_word, c.wide.ensures, c.if-above-first_word.false) in
+    = omega (arith, key (goal.at.returns-then-alive_from c).After-first_word, c.if-above-first_word.false) in
     record {
       behind = l.invariant.0;
       within = l.invariant.1;

@@ -1,8 +1,7 @@
 -- `place` meets its contract: r is the place among the first i. Assumes nothing.
-use Prim.Native.Nat.{◌+◌, ◌-◌, ◌≤◌}
+use Prim.Native.Nat.{◌+◌}
 use native.Mathlib.Omega.{arith}
 use mathlib.Core.Path.{◌≡◌}
-use borrow.Author.Rules.{rules}
 use Rattle.walk.specs.Places.{Place}
 use Rattle.walk.proofs.laws.Places.{place-start, place-on, place_end}
 use Rattle.walk.proofs.search.place.Goals as goal
@@ -13,7 +12,7 @@ overflow_add-begin c = let s = c.requires.0 in omega (arith, c.fives-begin.ensur
 
 pub loop-i-init : goal.loop-i-init
 loop-i-init c =
-    let f = c.fives-begin.ensures in let e = c.least-end.ensures in
+    let f = c.fives-begin.ensures in let e = c.min-end.ensures in
     let a = c.args in (
       omega (arith, f.within, e),
       omega (arith, e),
@@ -49,9 +48,9 @@ pub returns : goal.returns
 returns c =
     let a = c.args in
     let l = c.loop-i in
-    let e = c.least-end.ensures in
+    let e = c.min-end.ensures in
     let b = c.fives-begin.result in
     let f = c.fives-begin.ensures in
-    let t : l.i ≡ c.least-end.result = omega (arith, l.invariant.0, c.loop-i-test.false) in
+    let t : l.i ≡ c.min-end.result = omega (arith, l.invariant.0, c.loop-i-test.false) in
     place_end a.page.now a.n c.requires.0.order a.k b l.i l.r f (omega (arith, t, e)) (λ h. omega (arith, t, e, h))
     (omega (arith, t, e)) l.invariant.2

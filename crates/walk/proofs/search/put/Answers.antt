@@ -4,7 +4,6 @@ use mathlib.Core.List.{[], ◌∷◌}
 use mathlib.Core.Path.{ap, sym, ◌∙◌}
 use mathlib.Core.Bool.{Bool}
 use lib.ListN.{length-set}
-use borrow.Author.Rules.{rules}
 use Rattle.model.specs.Entry.{pair_of}
 use Rattle.walk.specs.Written.{written}
 use Rattle.walk.proofs.laws.Written.{put_both, put-none}

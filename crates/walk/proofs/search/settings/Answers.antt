@@ -1,17 +1,12 @@
 -- `settings` meets its contract. Assumes nothing.
-use Prim.Native.Nat.{ℕ, ◌≤◌, ◌<◌, ◌+◌, ◌-◌}
+use Prim.Native.Nat.{◌+◌}
 use native.Mathlib.Omega.{arith}
-use mathlib.Core.List.{List, [], ◌∷◌}
+use mathlib.Core.List.{[], ◌∷◌}
 use mathlib.Core.Path.{◌≡◌, refl}
-use borrow.Author.Rules.{rules}
-use Rattle.model.specs.Walk.{between}
 use Rattle.model.specs.Entry.{pair_of}
-use Rattle.model.specs.declared.Pair.{Pair}
-use Rattle.walk.proofs.laws.Written.{PairGathering, space-front, gather-start, gather-same, gather-step, gather-end}
-use Rattle.walk.specs.declared.search.Query.{Query}
-use Rattle.walk.specs.Scan.{from, entry}
+use Rattle.walk.proofs.laws.Written.{space-front, gather-start, gather-same, gather-step, gather-end}
+use Rattle.walk.specs.Scan.{entry}
 use Rattle.walk.proofs.laws.Scan.{next-none}
-use Rattle.walk.specs.Live.{live}
 use Rattle.walk.proofs.search.settings.Goals as goal
 use Rattle.walk.proofs.search.settings.Invariants.{asked}
 
@@ -50,9 +45,6 @@ loop-i-preserved c =
           (gather-step (pair_of (entry a.page.now l.i) ∷ []) (asked a.page.now a.q a.n (l.i + 1)) g _ _
           (record { count = refl; list = rw c.entry_at-e.ensures at c.put.ensures })),
     )
-
-pub shape_of-list : goal.shape_of-list
-shape_of-list c = c.loop-i.invariant.2.same
 
 pub returns : goal.returns
 returns c =

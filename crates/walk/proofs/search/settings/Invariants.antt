@@ -1,16 +1,13 @@
 -- `settings` meets its contract. Assumes nothing.
 use Prim.Native.Nat.{ℕ, ◌≤◌, ◌<◌, ◌+◌, ◌-◌}
-use native.Mathlib.Omega.{arith}
-use mathlib.Core.List.{List, [], ◌∷◌}
-use mathlib.Core.Path.{◌≡◌, refl}
-use borrow.Author.Rules.{rules}
+use mathlib.Core.List.{List, ◌∷◌}
+use mathlib.Core.Path.{◌≡◌}
 use Rattle.model.specs.Walk.{between}
 use Rattle.model.specs.Entry.{pair_of}
 use Rattle.model.specs.declared.Pair.{Pair}
-use Rattle.walk.proofs.laws.Written.{PairGathering, space-front, gather-start, gather-same, gather-step, gather-end}
+use Rattle.walk.proofs.laws.Written.{PairGathering}
 use Rattle.walk.specs.declared.search.Query.{Query}
 use Rattle.walk.specs.Scan.{from, entry}
-use Rattle.walk.proofs.laws.Scan.{next-none}
 use Rattle.walk.specs.Live.{live}
 use Rattle.walk.proofs.search.settings.Given as goal
 

@@ -1,6 +1,5 @@
 -- `visits` meets its contract. Assumes nothing.
 use native.Mathlib.Omega.{arith}
-use borrow.Author.Rules.{rules}
 use Rattle.model.specs.Layout.{decode}
 use Rattle.store.proofs.laws.Sure.{few}
 use Rattle.walk.proofs.laws.Sure.{root-covers, covers-inside}
@@ -12,7 +11,7 @@ height_of-up-requires c =
     let r = c.requires.0 in
     let a = c.args in
     let k = root-covers r a.key c.requires.1 in
-    rw c.root_at-root.ensures (r.edition, covers-inside r _ _ _ k, few r.edition a.s.now r.sound, omega (arith, k.level))
+    rw c.root_at-root.ensures (covers-inside r _ _ _ k, few r.edition a.s.now r.sound, omega (arith, k.level))
 
 pub overflow_add-count : goal.overflow_add-count
 overflow_add-count c =
