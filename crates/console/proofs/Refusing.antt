@@ -7,6 +7,7 @@ use Rattle.model.specs.declared.refusal.Refusal.TheVariants.{NoUpdateOpen, Updat
 use Rattle.model.specs.declared.refusal.Refusal.TheVariants.{NoPageFree, NoSlotFree, NothingChanged, ValueNotAdmitted, KeyUnknown}
 use Rattle.model.specs.declared.refusal.ListRefusal.{ListRefusal}
 use Rattle.model.specs.declared.refusal.ListRefusal.TheVariants.{Refused as NotTold, TooShort}
+use Rattle.store.proofs.laws.Refused.{refuses-some}
 use Rattle.lines.specs.declared.Answer.TheVariants.{Refused}
 use Rattle.lines.specs.Session.{answered}
 
@@ -31,22 +32,5 @@ answered-refusal KeyUnknown = refl
 
 -- and so has one of a list
 pub listed-refusal : (e : ListRefusal) → list_number_of e ≡ 0 → ⊥
-listed-refusal (NotTold r) z = some r z where
-  some : (r : Refusal) → number_of r ≡ 0 → ⊥
-  some WrongLength z = absurd (omega arith)
-  some WrongFirstBytes z = absurd (omega arith)
-  some WrongEdition z = absurd (omega arith)
-  some NotSound z = absurd (omega arith)
-  some KeyTooLarge z = absurd (omega arith)
-  some VersionAboveLast z = absurd (omega arith)
-  some NoUpdateOpen z = absurd (omega arith)
-  some UpdateAlreadyOpen z = absurd (omega arith)
-  some VersionsUsedUp z = absurd (omega arith)
-  some KeyAlive z = absurd (omega arith)
-  some KeyNotAlive z = absurd (omega arith)
-  some NoPageFree z = absurd (omega arith)
-  some NoSlotFree z = absurd (omega arith)
-  some NothingChanged z = absurd (omega arith)
-  some ValueNotAdmitted z = absurd (omega arith)
-  some KeyUnknown z = absurd (omega arith)
+listed-refusal (NotTold r) z = refuses-some r z
 listed-refusal (TooShort n) z = absurd (omega arith)

@@ -9,7 +9,7 @@ use mathlib.Core.Path.{◌≡◌, refl, ap, ◌∙◌}
 use mathlib.Core.List.{List}
 use native.Mathlib.Omega.{arith}
 use Rattle.std.proofs.lemmas.Result.{err_from_is_err_and}
-use Rattle.update.proofs.laws.Foreseen.{a_number}
+use Rattle.store.proofs.laws.Refused.{refuses-some}
 use Rattle.back.proofs.pass.Goals as goal
 use Rattle.back.proofs.pass.Goals.{After-act}
 
@@ -43,7 +43,7 @@ returns-in_err-act c =
     rw (q.1, q.2)
     (record {
       going = t.went.going;
-      goes = λ z. absurd (a_number c.in_err-act.field-0.0 z);
+      goes = λ z. absurd (refuses-some c.in_err-act.field-0.0 z);
       stops = λ z. l.invariant.2 ∙ passes_over (goal.at.returns-in_err-act c).After-act
           ∙ pass-stops l.invariant.1 p.result.key p.ensures.0.high c.next-d.result c.next-d.ensures
           c.args.insert _ _ t z;

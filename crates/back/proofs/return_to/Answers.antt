@@ -1,6 +1,6 @@
 -- `return_to` meets its contract. Assumes nothing.
 use mathlib.Core.Path.{refl}
-use Rattle.update.proofs.laws.Foreseen.{a_number}
+use Rattle.store.proofs.laws.Refused.{refuses-some}
 use Rattle.back.proofs.laws.Both.{all_done, one-stops}
 use Rattle.back.proofs.return_to.Goals as goal
 
@@ -14,5 +14,5 @@ abandon-requires c = let g = c.in-Err.ensures.going in (g.sound, g.opened)
 
 pub returns-in-Err : goal.returns-in-Err
 returns-in-Err c =
-    let parts = one-stops c.requires _ _ c.in-Err.ensures (a_number c.in-Err.r) _ c.abandon.ensures in
+    let parts = one-stops c.requires _ _ c.in-Err.ensures (refuses-some c.in-Err.r) _ c.abandon.ensures in
     record { number = parts.0; bytes = parts.1 }

@@ -3,7 +3,7 @@ use native.Mathlib.Omega.{arith}
 use Rattle.convert.proofs.laws.Version.{old-read, new-read, open-ready, open-shows, version-stops, version-goes, version_low}
 use mathlib.Core.Path.{refl}
 use Rattle.std.proofs.lemmas.Result.{err_from_is_err_and}
-use Rattle.update.proofs.laws.Foreseen.{a_number}
+use Rattle.store.proofs.laws.Refused.{refuses-some}
 use Rattle.convert.proofs.one_version.Goals as goal
 
 pub overflow_add-v : goal.overflow_add-v
@@ -21,7 +21,7 @@ pub returns-in_err-carry : goal.returns-in_err-carry
 returns-in_err-carry c =
     let p = c.requires in
     let r = err_from_is_err_and c.from_residual.result c.from_residual.ensures.1 in
-    rw (r.1, r.2) (version-stops p.0 p.1 _ c.begin.ensures _ _ c.in_err-carry.ensures (a_number c.in_err-carry.field-0.0))
+    rw (r.1, r.2) (version-stops p.0 p.1 _ c.begin.ensures _ _ c.in_err-carry.ensures (refuses-some c.in_err-carry.field-0.0))
 
 pub returns : goal.returns
 returns c =

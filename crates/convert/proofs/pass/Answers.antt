@@ -10,7 +10,7 @@ use mathlib.Core.Path.{refl, ap, subst, ◌∙◌}
 use mathlib.Core.List.{List}
 use native.Mathlib.Omega.{arith}
 use Rattle.std.proofs.lemmas.Result.{err_from_is_err_and}
-use Rattle.update.proofs.laws.Foreseen.{a_number}
+use Rattle.store.proofs.laws.Refused.{refuses-some}
 use Rattle.convert.proofs.pass.Goals as goal
 use Rattle.convert.proofs.pass.Goals.{After-next-d}
 
@@ -60,7 +60,7 @@ returns-in_err-act c =
     rw (r.1, r.2)
     (record {
       ready = t.ready;
-      goes = λ z. absurd (a_number c.in_err-act.field-0.0 z);
+      goes = λ z. absurd (refuses-some c.in_err-act.field-0.0 z);
       stops = λ z. i.invariant.3 ∙ ap (λ (ds : List Delta). passed a.insert a.l.least ds (decode a.l.least i.t)) e
           ∙ pass-stops p.0 p.1 a.l i.t a.insert i.invariant.1 o.result.key o.ensures.0.high d.result
           d.ensures q _ _ t z;

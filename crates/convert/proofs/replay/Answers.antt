@@ -7,7 +7,7 @@ use mathlib.Core.Path.{◌≡◌, refl, ap, sym, ◌∙◌}
 use native.Mathlib.Omega.{arith}
 use Prim.Native.Nat.{ℕ, ◌≤◌, ◌<◌}
 use Rattle.std.proofs.lemmas.Result.{err_from_is_err_and}
-use Rattle.update.proofs.laws.Foreseen.{a_number}
+use Rattle.store.proofs.laws.Refused.{refuses-some}
 use Rattle.convert.proofs.replay.Goals as goal
 use Rattle.convert.proofs.replay.Goals.{After-header-last}
 
@@ -60,7 +60,7 @@ returns-in_err-one_version c =
     rw (r.1, r.2)
     (record {
       sound = q.sound;
-      goes = λ z. absurd (a_number c.in_err-one_version.field-0.0 z);
+      goes = λ z. absurd (refuses-some c.in_err-one_version.field-0.0 z);
       stops = λ z. i.invariant.2 ∙ x.same ∙ on-stops x.now-at (less c.if-w-last.false c.skip-w.ensures.high (current-is (goal.at.returns-in_err-one_version c).After-header-last)) _ _ q z;
     })
 

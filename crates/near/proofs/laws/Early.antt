@@ -6,11 +6,6 @@ use mathlib.Core.Path.{◌≡◌, refl, ap, sym, ◌∙◌}
 use mathlib.Core.List.{List, [], ◌∷◌, ◌++◌}
 use lib.Dec.{leb}
 use Rattle.model.specs.Looked.{Refused}
-use Rattle.model.specs.declared.refusal.Refusal.{Refusal}
-use Rattle.model.specs.declared.refusal.Refusal.TheVariants.{WrongLength, WrongFirstBytes, WrongEdition, NotSound, KeyTooLarge, VersionAboveLast}
-use Rattle.model.specs.declared.refusal.Refusal.TheVariants.{NoUpdateOpen, UpdateAlreadyOpen, VersionsUsedUp, KeyAlive, KeyNotAlive}
-use Rattle.model.specs.declared.refusal.Refusal.TheVariants.{NoPageFree, NoSlotFree, NothingChanged, ValueNotAdmitted, KeyUnknown}
-use Rattle.model.specs.Refusals.{number_of}
 use Rattle.model.specs.declared.Limits.{Limits}
 use Rattle.model.specs.Limits.{Edition}
 use Rattle.model.specs.Walk.{key_limit, lookup}
@@ -26,25 +21,6 @@ use Rattle.local.proofs.laws.Right.{front-true}
 use Rattle.walk.specs.Sure.{Fronted}
 use Rattle.near.specs.Down.{walked}
 use Rattle.near.specs.Early.{fronted, guarded}
-
--- each reason for refusing has a number
-pub refused-some : (r : Refusal) → number_of r ≡ 0 → ⊥
-refused-some WrongLength z = omega arith
-refused-some WrongFirstBytes z = omega arith
-refused-some WrongEdition z = omega arith
-refused-some NotSound z = omega arith
-refused-some KeyTooLarge z = omega arith
-refused-some VersionAboveLast z = omega arith
-refused-some NoUpdateOpen z = omega arith
-refused-some UpdateAlreadyOpen z = omega arith
-refused-some VersionsUsedUp z = omega arith
-refused-some KeyAlive z = omega arith
-refused-some KeyNotAlive z = omega arith
-refused-some NoPageFree z = omega arith
-refused-some NoSlotFree z = omega arith
-refused-some NothingChanged z = omega arith
-refused-some ValueNotAdmitted z = omega arith
-refused-some KeyUnknown z = omega arith
 
 -- each rule of a chain has a number
 abbrev pub Numbered : List Rule → Type 0

@@ -7,14 +7,15 @@ use Rattle.model.specs.declared.Header.{Header}
 use Rattle.model.specs.Store.{last_of}
 use Rattle.store.proofs.laws.Read.{current-lt}
 use Rattle.local.proofs.laws.First.{last-is}
-use Rattle.near.proofs.laws.Early.{refused-some, lookup-refused, lookup-walked, guard-fronted, none-sized, none-fronted}
+use Rattle.near.proofs.laws.Early.{lookup-refused, lookup-walked, guard-fronted, none-sized, none-fronted}
+use Rattle.store.proofs.laws.Refused.{refuses-some}
 use Rattle.near.proofs.lookup.Goals as goal
 
 pub returns-in_err-guard : goal.returns-in_err-guard
 returns-in_err-guard c =
     let a = c.args in
     let p = err_from_is_err_and c.from_residual.result c.from_residual.ensures.1 in
-    rw (p.1, p.2) (lookup-refused a.l.least a.s.now a.key a.v _ c.in_err-guard.ensures (refused-some _))
+    rw (p.1, p.2) (lookup-refused a.l.least a.s.now a.key a.v _ c.in_err-guard.ensures (refuses-some _))
 
 pub header-h-requires : goal.header-h-requires
 header-h-requires c =

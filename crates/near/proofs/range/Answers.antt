@@ -7,7 +7,8 @@ use Rattle.model.specs.declared.Header.{Header}
 use Rattle.model.specs.Store.{last_of}
 use Rattle.store.proofs.laws.Read.{current-lt}
 use Rattle.local.proofs.laws.First.{last-is}
-use Rattle.near.proofs.laws.Early.{refused-some, guard-fronted, none-sized, none-fronted}
+use Rattle.near.proofs.laws.Early.{guard-fronted, none-sized, none-fronted}
+use Rattle.store.proofs.laws.Refused.{refuses-some}
 use Rattle.near.proofs.laws.Crossed.{range-refused, range-crossed}
 use Rattle.near.proofs.range.Goals as goal
 
@@ -17,7 +18,7 @@ returns-in_err-guard c =
     let p = err_from_is_err_and c.from_residual.result c.from_residual.ensures.1 in
     rw (p.1, p.2)
     (range-refused a.l.least a.s.now a.low a.high a.v a.list.now _
-    (rw c.bad_range.ensures at c.in_err-guard.ensures) (refused-some _))
+    (rw c.bad_range.ensures at c.in_err-guard.ensures) (refuses-some _))
 
 pub header-h-requires : goal.header-h-requires
 header-h-requires c =

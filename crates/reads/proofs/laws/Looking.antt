@@ -1,20 +1,19 @@
 -- A lookup and a range on a sound store: 5, then 6, then the walk.
 -- Assumes nothing.
 use Prim.Native.Nat.{ℕ, zero, suc}
-use mathlib.Core.Bool.{Bool, true, false}
+use mathlib.Core.Bool.{true}
 use mathlib.Core.Path.{◌≡◌, refl, ap, sym, ◌∙◌}
 use mathlib.Core.Logic.{◌≢◌}
-use mathlib.Core.List.{List, [], ◌∷◌}
+use mathlib.Core.List.{List}
 use lib.Dec.{leb}
 use lib.ListN.{length}
 use Rattle.model.specs.declared.Limits.{Limits}
-use Rattle.model.specs.Looked.{Looked}
 use Rattle.model.specs.Looked.{Refused}
 use Rattle.model.specs.Limits.{Edition}
 use Rattle.model.specs.Walk.{key_limit, lookup, range_of}
 use Rattle.model.specs.Layout.{decode}
 use Rattle.model.specs.Judged.{is_sound}
-use Rattle.model.specs.Calls.{rule, first_of, unreadable, looked_at, looked_by, get, ranged_by, range, bad_range}
+use Rattle.model.specs.Calls.{first_of, looked_at, looked_by, get, ranged_by, range, bad_range}
 use Rattle.model.specs.Lent.{Listed, listed, lookup_lent, range_lent}
 use Rattle.model.specs.declared.refusal.Refusal.{Refusal}
 use Rattle.model.specs.Refusals.{number_of}

@@ -1,18 +1,17 @@
 -- Laws about reads/specs/Reading. Assumes nothing.
 use Prim.Native.Nat.{ℕ}
 use mathlib.Core.Bool.{Bool, true, false}
-use mathlib.Core.Path.{◌≡◌, refl, ap, ap₂, sym, ◌∙◌}
-use mathlib.Core.List.{List, [], ◌∷◌}
+use mathlib.Core.Path.{◌≡◌, refl, ap, sym, ◌∙◌}
+use mathlib.Core.List.{List}
 use lib.Dec.{leb}
 use lib.ListN.{length}
 use Rattle.model.specs.Store.{last_of}
 use Rattle.model.specs.Walk.{key_limit, lookup_visits}
 use Rattle.model.specs.Layout.{read_header, decode}
-use Rattle.model.specs.Judged.{judged}
 use Rattle.model.specs.declared.Limits.{Limits}
 use Rattle.model.specs.declared.Header.{Header}
 use Rattle.model.specs.Limits.{Edition}
-use Rattle.model.specs.Calls.{rule, first_of, beyond, unreadable}
+use Rattle.model.specs.Calls.{first_of, beyond, unreadable}
 use Rattle.model.specs.Told.{told_by}
 use Rattle.model.specs.Visited.{page_number, visits}
 use Rattle.model.specs.Lent.{judged_first, Listed, listed, visits_lent}
@@ -20,7 +19,7 @@ use Rattle.model.proofs.sound.ByRule.{readable_of}
 use Rattle.model.proofs.reading.Readings.{none-holds}
 use Rattle.walk.specs.Sure.{Walkable}
 use Rattle.reads.specs.Guard.{guarded}
-use Rattle.reads.proofs.laws.Guard.{refused-by, goes_by, chain-number, by-guard, guard-sound, guard-chain}
+use Rattle.reads.proofs.laws.Guard.{refused-by, goes_by, by-guard, guard-sound, guard-chain}
 use Rattle.reads.specs.Reading.{reading}
 
 module _ (least : ℕ) (b : List ℕ) where

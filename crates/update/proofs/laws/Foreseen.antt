@@ -1,12 +1,9 @@
 -- The number that an update will come to, by what is foreseen of the root. Assumes nothing.
 use mathlib.Core.Bool.{Bool, true, false}
 use mathlib.Core.Path.{◌≡◌, ap, sym, ◌∙◌}
-use native.Mathlib.Omega.{arith}
 use Rattle.std.specs.Prelude.{Ok, Err}
 use Rattle.model.specs.declared.refusal.Refusal.{Refusal}
-use Rattle.model.specs.declared.refusal.Refusal.TheVariants.{WrongLength, WrongFirstBytes, WrongEdition, NotSound, KeyTooLarge, VersionAboveLast}
-use Rattle.model.specs.declared.refusal.Refusal.TheVariants.{NoUpdateOpen, UpdateAlreadyOpen, VersionsUsedUp, KeyAlive, KeyNotAlive}
-use Rattle.model.specs.declared.refusal.Refusal.TheVariants.{NoPageFree, NoSlotFree, NothingChanged, ValueNotAdmitted, KeyUnknown}
+use Rattle.model.specs.declared.refusal.Refusal.TheVariants.{NoPageFree}
 use Rattle.model.specs.Basic.{pick}
 use Rattle.model.specs.Refusals.{number_of}
 use Rattle.outlook.specs.Plan as plan
@@ -26,22 +23,3 @@ module _ (b : Bool) (x : plan.Outlook) where
   pub moves-number : outlook_of (Ok true) ≡ x → (a : Bool) → b ≡ a → pick a 0 13 ≡ outlook_number b x
   unfolding outlook_of outlook_number
   moves-number e a f = ap (λ (c : Bool). pick c 0 13) (sym f) ∙ ap (outlook_number b) e
-
--- a reason for refusing has a number
-pub a_number : (r : Refusal) → number_of r ≡ 0 → ⊥
-a_number WrongLength e = absurd (omega (arith, e))
-a_number WrongFirstBytes e = absurd (omega (arith, e))
-a_number WrongEdition e = absurd (omega (arith, e))
-a_number NotSound e = absurd (omega (arith, e))
-a_number KeyTooLarge e = absurd (omega (arith, e))
-a_number VersionAboveLast e = absurd (omega (arith, e))
-a_number NoUpdateOpen e = absurd (omega (arith, e))
-a_number UpdateAlreadyOpen e = absurd (omega (arith, e))
-a_number VersionsUsedUp e = absurd (omega (arith, e))
-a_number KeyAlive e = absurd (omega (arith, e))
-a_number KeyNotAlive e = absurd (omega (arith, e))
-a_number NoPageFree e = absurd (omega (arith, e))
-a_number NoSlotFree e = absurd (omega (arith, e))
-a_number NothingChanged e = absurd (omega (arith, e))
-a_number ValueNotAdmitted e = absurd (omega (arith, e))
-a_number KeyUnknown e = absurd (omega (arith, e))

@@ -3,7 +3,7 @@ use Rattle.model.proofs.Edition.{edition}
 use Rattle.update.proofs.laws.Whole.{Begun, kept, slots, readable, is-refused, to-apply, is-done}
 use mathlib.Core.Path.{refl}
 use Rattle.std.proofs.lemmas.Result.{err_from_is_err_and}
-use Rattle.update.proofs.laws.Foreseen.{a_number}
+use Rattle.store.proofs.laws.Refused.{refuses-some}
 use Rattle.update.proofs.rise.Goals as goal
 use Rattle.update.proofs.rise.Goals.{After-slice_known-1}
 
@@ -33,7 +33,7 @@ pub returns-in_err-foresee : goal.returns-in_err-foresee
 returns-in_err-foresee c =
     let p = err_from_is_err_and c.from_residual.result c.from_residual.ensures.1 in
     let e = is-refused (begun (goal.at.returns-in_err-foresee c).After-slice_known-1) _ c.requires.5 c.way_to-way.result
-    c.way_to-way.ensures c.args.c _ c.in_err-foresee.ensures (a_number c.in_err-foresee.field-0.0) in
+    c.way_to-way.ensures c.args.c _ c.in_err-foresee.ensures (refuses-some c.in_err-foresee.field-0.0) in
     record {
       number = rw (p.1, p.2, e);
       bytes = rw e;

@@ -2,7 +2,6 @@
 use mathlib.Core.Path.{◌≡◌, ap, ◌∙◌}
 use Rattle.lines.specs.Session.{looked}
 use native.Mathlib.Omega.{arith}
-use Rattle.model.specs.declared.Limits.{Limits}
 use Rattle.console.proofs.Keeping.{front}
 use Rattle.console.proofs.Staying.{surely}
 use Rattle.console.proofs.reading.get.Goals as goal

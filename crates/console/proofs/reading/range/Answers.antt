@@ -1,10 +1,9 @@
 -- A range is answered: refused, or its count and the settings in the list. Assumes nothing.
 use Prim.Native.Nat.{◌*◌, ◌≤◌}
-use mathlib.Core.Path.{◌≡◌, refl, ap}
+use mathlib.Core.Path.{◌≡◌, refl}
 use Rattle.std.specs.Prelude.{Ok, Err}
 use Rattle.model.specs.Refusals.{listed_in}
 use Rattle.console.proofs.Refusing.{listed-refusal}
-use Rattle.model.specs.declared.Limits.{Limits}
 use Rattle.console.proofs.Ranging.{count_fits, range_none, range-refused, range-done}
 use native.Mathlib.Omega.{arith}
 use Rattle.console.proofs.Keeping.{front}

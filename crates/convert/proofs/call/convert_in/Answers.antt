@@ -1,6 +1,6 @@
 -- `convert_in` meets its contract. Assumes nothing.
 use mathlib.Core.Path.{refl, ◌∙◌}
-use Rattle.update.proofs.laws.Foreseen.{a_number}
+use Rattle.store.proofs.laws.Refused.{refuses-some}
 use Rattle.convert.proofs.laws.Whole.{fresh-made, starts, all_done, one-stops}
 use Rattle.convert.proofs.call.convert_in.Goals as goal
 
@@ -30,6 +30,6 @@ returns-in-Err c =
     let f = c.fresh_second.ensures.1 ∙ fresh-made a.t.now a.t.now refl p.1 in
     let k = c.edition_one.ensures.one in
     let l = c.edition_two.ensures.two in
-    one-stops a.s.now a.t.now p.0 p.1 c.edition_one.result c.edition_two.result k l _ f _ _ c.in-Err.ensures (a_number c.in-Err.r) _
+    one-stops a.s.now a.t.now p.0 p.1 c.edition_one.result c.edition_two.result k l _ f _ _ c.in-Err.ensures (refuses-some c.in-Err.r) _
     (c.fresh_second-in-Err.ensures.1
     ∙ fresh-made _ a.t.now (c.replay.auto.t ∙ c.fresh_second.auto.s) p.1)

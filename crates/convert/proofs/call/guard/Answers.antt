@@ -6,7 +6,7 @@ use native.Mathlib.Omega.{arith}
 use Prim.Native.Nat.{ℕ}
 use borrow.Author.Tests.{not-true, not-false}
 use Rattle.std.proofs.lemmas.Result.{err_from_is_err_and}
-use Rattle.update.proofs.laws.Foreseen.{a_number}
+use Rattle.store.proofs.laws.Refused.{refuses-some}
 use Rattle.model.specs.declared.Header.{Header}
 use Rattle.model.specs.Layout.{read_header, decode}
 use Rattle.model.specs.Judged.{length_ok, judged}
@@ -69,7 +69,7 @@ returns-in_err-judge c =
     (judged-wrong a.s.now a.t.now c.if-s-lt5.false (sym n.ensures ∙ not-false n.result c.if-not-named.false-raw)
     (c.shared_slice_known-3-1.given 4).fits c.if-s-ne1.false (whole_is (goal.at.returns-in_err-judge c).Else-not-whole) _
     (c.in_err-judge.ensures ∙ ap (λ (x : ℕ). (judged x a.s.now).number) c.edition_one-k.ensures.one)
-    (a_number c.in_err-judge.field-0.0))
+    (refuses-some c.in_err-judge.field-0.0))
 
 pub header-requires : goal.header-requires
 header-requires c =

@@ -1,4 +1,4 @@
-use Prim.Native.Nat.{◌+◌, ◌-◌, ◌≤◌, ◌<◌}
+use Prim.Native.Nat.{◌+◌, ◌≤◌, ◌<◌}
 use native.Mathlib.Omega.{arith}
 use mathlib.Core.List.{List}
 use mathlib.Core.Path.{◌≡◌, refl, ap, sym, subst, ◌∙◌}
@@ -9,7 +9,7 @@ use lib.Dec.{eqb}
 use Rattle.model.specs.declared.Kind.{Kind}
 use Rattle.model.specs.declared.Pair.{Pair}
 use Rattle.model.specs.Kinds.{unknown, known_in}
-use Rattle.model.specs.Walk.{settings, between, range_of, key_limit}
+use Rattle.model.specs.Walk.{settings, between}
 use Rattle.model.specs.Layout.{decode}
 use Rattle.model.specs.Named.{all_known}
 use Rattle.differ.proofs.laws.Listing.{reads-rising}

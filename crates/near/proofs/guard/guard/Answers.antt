@@ -10,7 +10,8 @@ use Rattle.model.specs.Calls.{beyond, unreadable}
 use Rattle.model.specs.Layout.{decode}
 use Rattle.store.proofs.laws.Read.{current-lt, oldest-of}
 use Rattle.local.proofs.laws.First.{last-is}
-use Rattle.near.proofs.laws.Early.{refused-some, guard-front, guard-five, guard-six, guard_none, none-sized}
+use Rattle.near.proofs.laws.Early.{guard-front, guard-five, guard-six, guard_none, none-sized}
+use Rattle.store.proofs.laws.Refused.{refuses-some}
 use Rattle.near.proofs.guard.guard.Goals as goal
 use Rattle.near.proofs.guard.guard.Goals.{After-unreadable}
 
@@ -19,7 +20,7 @@ returns-in_err-front c =
     let a = c.args in
     let p = err_from_is_err_and c.from_residual.result c.from_residual.ensures.1 in
     let e = c.in_err-front.ensures in
-    rw (p.1, p.2) (e ∙ guard-front a.l.least a.s.now a.bad a.v (λ z. refused-some _ (e ∙ z)))
+    rw (p.1, p.2) (e ∙ guard-front a.l.least a.s.now a.bad a.v (λ z. refuses-some _ (e ∙ z)))
 
 pub returns-then-bad : goal.returns-then-bad
 returns-then-bad c =

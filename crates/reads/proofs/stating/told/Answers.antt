@@ -2,7 +2,6 @@
 use Rattle.model.proofs.Edition.{edition}
 use native.Mathlib.Omega.{arith}
 use Rattle.store.proofs.laws.Sure.{few, front}
-use Rattle.parts.specs.Kept.{ExactBytes}
 use Rattle.parts.proofs.laws.Kept.{kept-sound}
 use Rattle.reads.proofs.laws.Stating.{free-fits, told}
 use Rattle.reads.proofs.stating.told.Goals as goal
