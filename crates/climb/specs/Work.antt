@@ -1,4 +1,5 @@
 -- One page's work: what its values stand for, and the cases.
+use Rattle.model.specs.declared.refusal.Refusal.TheVariants.{NoPageFree}
 use Rattle.std.specs.Prelude.{ℕ, ◌+◌, ◌/◌, ◌≡◌, List, set, take, drop, Option, None, Some, Result, Ok, Err}
 use Rattle.model.specs.declared.Limits.{Limits}
 use Rattle.model.specs.declared.refusal.Refusal.{Refusal}
@@ -20,11 +21,11 @@ worked_of (Ok None) ps = rules.settled ps
 worked_of (Ok (Some c)) ps = rules.upward (change_of c) ps
 worked_of (Err r) ps = rules.lacking
 
--- the change that goes up fits a page's entries
+-- the change that goes up fits a page's entries; and what is refused is refused since the rules need a page and none is free
 abbrev pub UpFits : Result (Option Change) Refusal → Type 0
 UpFits (Ok None) = Unit {0}
 UpFits (Ok (Some c)) = Fits c
-UpFits (Err r) = Unit {0}
+UpFits (Err r) = r ≡ NoPageFree
 
 -- the bytes of `b` become those of `b'` by what the page rules make of the pages, `x`, and what goes up fits
 abbrev pub Works : (l : Limits) (b b' : List ℕ) (x : rules.Worked) (r : Result (Option Change) Refusal) → Type 0

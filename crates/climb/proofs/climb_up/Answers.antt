@@ -33,7 +33,7 @@ returns-in_err-e c =
       climb-step c.args.l.least c.args.w c.args.way.list (change_of c.loop-k.d)
           (pages_of c.args.l c.loop-k.s) c.loop-k.k (omega arith) _ c.in_err-e.ensures.0 ∙ c.loop-k.invariant.3,
       then c.requires.0 c.loop-k.invariant.2 c.in_err-e.ensures.1,
-      tt,
+      p.2 ∙ c.in_err-e.ensures.2,
     )
 
 pub returns-in-None : goal.returns-in-None

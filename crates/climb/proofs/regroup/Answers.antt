@@ -1,3 +1,4 @@
+use mathlib.Core.Path.{refl}
 use mathlib.Core.Path.{◌≡◌, ◌∙◌}
 use Rattle.model.specs.Needs.{fills}
 use Rattle.gather.specs.Gather.{pairs_in}
@@ -24,7 +25,7 @@ returns-then-u-fills c = (
       (pages_of c.args.l c.args.s.now) c.args.g c.usable-u.result
       c.usable-u.ensures (rw (need-is (c.before.before)) at c.if-u-fills.true),
   stays c.requires.0,
-  tt,
+  refl,
 )
 
 pub parent_change-c-requires : goal.parent_change-c-requires

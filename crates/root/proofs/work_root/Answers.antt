@@ -44,6 +44,7 @@ returns-then-goes c =
           (root-goes c.args.l.least c.args.w (pages_of c.args.l c.args.s.now)
           c.args.n (change_of c.args.c) (sym (goes-is (goal.at.returns-then-goes c).After-goes) ∙ c.if-goes.true)),
       itself c.requires.0 d,
+      tt,
     )
 
 pub change_in-requires : goal.change_in-requires
@@ -67,6 +68,7 @@ returns-then-has_room c =
           c.args.n (change_of c.args.c) (sym (goes-is (goal.at.returns-then-has_room c).After-goes) ∙ c.if-goes.false)
           (sym c.has_room.ensures ∙ c.if-has_room.true)),
       itself c.requires.0 d,
+      tt,
     )
 
 pub alone-requires : goal.alone-requires
@@ -100,4 +102,5 @@ returns c = (
       c.args.n (change_of c.args.c) (sym (goes-is (goal.at.returns c).After-goes) ∙ c.if-goes.false)
       (sym c.has_room.ensures ∙ c.if-has_room.false),
   c.new_root.ensures.1,
+  c.new_root.ensures.2,
 )

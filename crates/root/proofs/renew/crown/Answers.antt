@@ -1,4 +1,5 @@
 -- `crown` meets its contract. Assumes nothing.
+use mathlib.Core.Path.{refl}
 use native.Mathlib.Omega.{arith}
 use mathlib.Core.Path.{◌∙◌}
 use Prim.Native.Nat.{◌+◌}
@@ -17,6 +18,7 @@ unfolding rooted_of
 returns-in_default c = (
   crown-one c.args.w c.args.level (pages_of c.args.l c.args.s.now) c.args.rs c.in_default.is,
   stays c.requires.0,
+  tt,
 )
 
 pub first_free-n-requires : goal.first_free-n-requires
@@ -29,6 +31,7 @@ returns-then-n-size c =
       crown-none c.args.w c.args.level ps c.args.rs c.in-Some.next c.in-Some.is
           (free_all ps ∙ c.first_free-n.ensures.none (omega (arith, c.if-n-size.true))),
       stays c.requires.0,
+      refl,
     )
 
 pub overflow_add-level : goal.overflow_add-level
@@ -63,4 +66,5 @@ returns c =
           (free_all ps ∙ c.first_free-n.ensures.some
           (omega (arith, c.first_free-n.ensures.high, c.if-n-size.false)))),
       itself c.requires.0 d,
+      tt,
     )

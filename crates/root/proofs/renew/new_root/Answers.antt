@@ -1,4 +1,5 @@
 -- `new_root` meets its contract. Assumes nothing.
+use mathlib.Core.Path.{refl}
 use native.Mathlib.Omega.{arith}
 use mathlib.Core.Path.{◌≡◌, sym, ◌∙◌}
 use Rattle.model.specs.Needs.{fills}
@@ -33,6 +34,7 @@ returns-then-u-fills c = (
       (pages_of c.args.l c.args.s.now) c.args.g c.usable-u.result
       c.usable-u.ensures (rw (need-is c.before.before) at c.if-u-fills.true)),
   stays c.requires.0,
+  refl,
 )
 
 pub routers_to-rs-requires : goal.routers_to-rs-requires
@@ -65,4 +67,5 @@ pub returns : goal.returns
 returns c = (
   c.crown.ensures.0 ∙ rw (c.routers_to-rs.ensures.0, c.rebuild.ensures.0),
   then c.requires.0 c.rebuild.ensures.1 c.crown.ensures.1,
+  c.crown.ensures.2,
 )
