@@ -37,5 +37,5 @@ pub(crate) fn entry_ok(last: u32, size: usize, level: u32, e: Entry) -> bool
 pub(crate) fn stands_before(d: Entry, e: Entry) -> bool
     ensures { result ≡ before d e }
 {
-    (d.key, d.start) < (e.key, e.start)
+    d.key < e.key || d.key == e.key && d.start < e.start
 }

@@ -36,7 +36,8 @@ fn spare_at(l: Limits, level: u32) -> usize
     }
 }
 
-// "79 zero bits"; "unused [entries] are all zero"
+// "79 zero bits"; "unused [entries] are all zero". By itself, since in a caller its loop loads each word byte by byte.
+#[inline(never)]
 fn clean_page(page: &[u8], l: Limits) -> bool
     requires { length page.now ≡ 64 * l.least }
     ensures { result ≡ clean_page l.least page.now }

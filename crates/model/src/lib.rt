@@ -151,11 +151,11 @@ pub fn edition_two() -> Limits
     }
 }
 
-// The edition whose limits these are.
-pub fn edition_of(l: Limits) -> u32
-    ensures { result ≡ edition_of l.least }
+// The edition whose limits have this least number. Any number may be asked.
+pub fn edition_of(least: usize) -> u32
+    ensures { result ≡ edition_of least }
 {
-    if l.least <= 4 {
+    if least <= 4 {
         return 1;
     }
     2

@@ -20,7 +20,8 @@ pub(crate) struct Item {
     pub upto: u32,
 }
 
-// The walk for one rule, at each version from a up to, not including, b. "the walk down stops at the first page that breaks a rule".
+// The walk for one rule, at each version from a up to, not including, b. "the walk down stops at the first page that breaks a rule": the
+// loop is left by its label, with the broken rule as its value.
 // A page is tested once for each stretch in which nothing of it starts or ends; what is left of its versions waits below its routers.
 // So the pages that wait are at most 41 for each of the 7 levels, and the root: fixed memory, as there is no heap.
 // Rule 6 asks only which pages are reached, so that a leaf is marked and no more. A mark for each of up to 4,096 page numbers, set for
@@ -50,7 +51,10 @@ pub(crate) fn walk(
     };
     let mut items = [first; 288];
     let mut top: usize = 1;
-    'walk: while 0 < top {
+    let broken = 'walk: loop {
+        if top == 0 {
+            break 'walk None;
+        }
         top -= 1;
         let it = items[top];
         let n = it.page;
@@ -65,7 +69,7 @@ pub(crate) fn walk(
         items[top] = Item { from: c, ..it };
         top += usize::from(c < it.upto);
         if !crate::live::opens(p, l, it.from, count, rule, it) {
-            return None;
+            break 'walk Some(rule);
         }
         marks[n] = true;
         let mut j = crate::live::next_live(p, it.from, 0, count);
@@ -74,7 +78,7 @@ pub(crate) fn walk(
             let k = crate::live::next_live(p, it.from, j + 1, count);
             let next = crate::live::upper(p, k, count, it.high);
             if !crate::live::steps(rule, it.low, it.high, next, e.key) {
-                return None;
+                break 'walk Some(rule);
             }
             if 0 < it.up {
                 items[top] = Item {
@@ -90,6 +94,9 @@ pub(crate) fn walk(
             }
             j = k;
         }
+    };
+    match broken {
+        None => Some(marks),
+        Some(_) => None,
     }
-    Some(marks)
 }

@@ -20,7 +20,7 @@ fn told(s: &[u8], l: Limits) -> State
         current: h.current,
         opened: h.opened,
         roots: h.roots,
-        edition: model::edition_of(l),
+        edition: model::edition_of(l.least),
         free: parts::count_free(s, l, size) as u32,
         oldest: h.oldest,
     }

@@ -46,7 +46,7 @@ pub fn of_edition(s: &[u8], l: Limits) -> bool
     requires { (5 ≤ length s.now) × (length s.now ≤ 2 ^ 40) }
     ensures { result ≡ edition_ok l.least s.now }
 {
-    bits::field(s, 32, 8) == model::edition_of(l)
+    bits::field(s, 32, 8) == model::edition_of(l.least)
 }
 
 // The header, whose number of roots has `rooter` bits and whose oldest version has `aged`.

@@ -47,7 +47,7 @@ pub fn make(s: &mut [u8], l: Limits)
 {
     let n = crate::size(s, l);
     page::clear(s);
-    put_name(s, model::edition_of(l) as u8);
+    put_name(s, model::edition_of(l.least) as u8);
     crate::put_header(
         s,
         l,

@@ -47,7 +47,7 @@ unfolding counted_pages
 none-pages least v s n zero h = refl
 none-pages least v s n (suc k) h = rw (none-page least v (page_of least s n) h) (none-pages least v s (n + 1) k h)
 
-eighth-none : (least : ℕ) (s : List ℕ) → least ≤ 4 → rule8 least s ≡ true
+pub eighth-none : (least : ℕ) (s : List ℕ) → least ≤ 4 → rule8 least s ≡ true
 unfolding rule8
 eighth-none least s h = none-pages least (last (decode least s)) s 5 (size_of least s - 5) h
 
@@ -84,7 +84,7 @@ some-pages least v s n zero f = refl
 some-pages least v s n (suc k) f =
     rw (f n (omega arith) (omega arith), some-pages least v s (n + 1) k (λ m l h. f m (omega arith) (omega arith)))
 
-eighth-some : (least : ℕ) (s : List ℕ) (size : ℕ) → Sized least s size → clean least s ≡ true → 4 < least
+pub eighth-some : (least : ℕ) (s : List ℕ) (size : ℕ) → Sized least s size → clean least s ≡ true → 4 < least
     → rule8 least s ≡ counts_ok least s 5 (size - 5)
 unfolding rule8
 eighth-some least s size z one h =

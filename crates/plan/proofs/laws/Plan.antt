@@ -58,7 +58,7 @@ module _ (least w : ℕ) (ps : List Page) (a : walk.Around) (c : changes.Change)
   level-group e = sym (rw e)
 
 module _ (least w : ℕ) (ps : List Page) (r : ℕ) (xs : List Around) (c : changes.Change) (left : ℕ) where
-  up_step : (k : ℕ) → 0 < k
+  pub up_step : (k : ℕ) → 0 < k
       → plan.plan_up least w ps r (ups_of xs k) c left
       ≡ plan.plan_on (plan.plan_work least w ps (around_of (get_or xs (k - 1) nowhere)) c left)
       (λ (c' : changes.Change) (left' : ℕ). plan.plan_up least w ps r (ups_of xs (k - 1)) c' left')

@@ -53,7 +53,7 @@ shuffle false false false false false = refl
 some_is : {A : Type 0} {x y : A} → ◌≡◌ {A = Option A} (Some x) (Some y) → x ≡ y
 some_is e = cc
 
-none_is : {A : Type 0} {y : A} → ◌≡◌ {A = Option A} None (Some y) → ⊥
+pub none_is : {A : Type 0} {y : A} → ◌≡◌ {A = Option A} None (Some y) → ⊥
 none_is e = cc
 
 module _ (least : ℕ) (four : 4 ≤ least) (eight : least ≤ 8) (s : List ℕ) (root up a b rule : ℕ) where

@@ -37,7 +37,7 @@ sound-zero least b h = eqb-true (judged least b).number 0 h
 
 module _ (least : ℕ) (b : List ℕ) (rules : Store → List Rule) where
   -- the guard as the code has it: a number of check's that is not 0, else the chain
-  judged-number : ((judged least b).number ≡ 0 → ⊥) → (judged least b).number ≡ guarded least b rules
+  pub judged-number : ((judged least b).number ≡ 0 → ⊥) → (judged least b).number ≡ guarded least b rules
   unfolding guarded
   judged-number z = refused-by (judged least b).number (λ n. n) (first_of (rules (decode least b))) z
 

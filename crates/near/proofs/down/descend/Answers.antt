@@ -28,7 +28,7 @@ loop-level-init c =
     )
 
 pub page_right-requires : goal.page_right-requires
-page_right-requires c = (c.requires.0, c.loop-level.invariant.0)
+page_right-requires c = (c.requires.0, omega (arith, c.loop-level-test.true))
 
 pub returns-then-not-page_right : goal.returns-then-not-page_right
 returns-then-not-page_right c =
